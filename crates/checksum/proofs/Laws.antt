@@ -1,0 +1,137 @@
+-- The exact totals, passed word by word, and the bytes put in order at the end.
+use mathlib.Core.Path.{_≡_, refl, sym, _∙_}
+use mathlib.Core.List.{List, [], _∷_}
+use Prim.Native.Nat.{ℕ, zero, suc, _+_, _*_, _-_, _/_, _%_, _^_, _≤_, _<_}
+use native.Mathlib.Numerals.{add-one}
+use native.Mathlib.Nat.{zero-add, add-assoc, mod-eq-of-lt, add-mul-mod-self-left}
+use native.Mathlib.Omega.{arith}
+use lib.Bits.{bitOr, or-shifted}
+use lib.ListN.{length, drop, getD, drop-of-length-le}
+use lib.Seq.{drop-cons}
+use Rattle.rules.specs.Checksum.{words, total, runningTotals, folded, checksum}
+use Rattle.rules.proofs.Checksum.{checksum-less}
+use Rattle.checksum.specs.Passing.{lowWords, lowWordAt, firstTotal, secondTotal, ordered, Sofar}
+
+-- ---- one step
+
+two-bytes : (s : List ℕ) (i : ℕ) → i + 1 < length s → drop i s ≡ getD s i 0 ∷ getD s (i + 1) 0 ∷ drop (i + 2) s
+two-bytes s i h = drop-cons s i 0 (omega arith) ∙ rw (← add-one i, drop-cons s (i + 1) 0 h, ← add-one (i + 1), add-assoc i 1 1)
+
+module _ (s : List ℕ) (f g : ℕ) where
+  -- One word more.
+  pub word-more : (i a b w : ℕ) → Sofar s f g i a b → i + 1 < length s → w ≡ lowWordAt s i → Sofar s f g (i + 2) (a + w) (b + (a + w))
+  word-more i a b w sofar h e =
+      rw e
+      (record {
+        one = omega (arith, rw (two-bytes s i h) at (sofar .one));
+        two = omega (arith, rw (two-bytes s i h) at (sofar .two));
+      })
+
+  -- Four words more.
+  four-more : (i a b w0 w1 w2 w3 : ℕ) → Sofar s f g i a b → i + 7 < length s
+      → w0 ≡ lowWordAt s i → w1 ≡ lowWordAt s (i + 2) → w2 ≡ lowWordAt s (i + 4) → w3 ≡ lowWordAt s (i + 6)
+      → Sofar s f g (i + 8) (a + (w0 + w1 + w2 + w3)) (b + (4 * a + 4 * w0 + 3 * w1 + 2 * w2 + w3))
+  four-more i a b w0 w1 w2 w3 sofar h e0 e1 e2 e3 =
+      let f1 = word-more i a b w0 sofar (omega arith) e0 in
+      let f2 = word-more (i + 2) _ _ w1 f1 (omega arith) e1 in
+      let f3 = word-more (i + 4) _ _ w2 (rw (add-assoc i 2 2) at f2) (omega arith) e2 in
+      let f4 = word-more (i + 6) _ _ w3 (rw (add-assoc i 4 2) at f3) (omega arith) e3 in
+      let eb : b + (a + w0) + (a + w0 + w1) + (a + w0 + w1 + w2) + (a + w0 + w1 + w2 + w3) ≡ b + (4 * a + 4 * w0 + 3 * w1 + 2 * w2 + w3) = omega arith in
+      let ea : a + w0 + w1 + w2 + w3 ≡ a + (w0 + w1 + w2 + w3) = omega arith in
+      rw (eb, ea, add-assoc i 6 2) at f4
+
+  -- The four lanes at the start, and a turn of them.
+  pub lanes-start : Sofar s f g 0 (f + 0 + 0 + 0) (g + 4 * (0 + 0 + 0 + 0) - (0 + 2 * 0 + 3 * 0))
+  lanes-start =
+      let ea : f + 0 + 0 + 0 ≡ f = omega arith in
+      let eb : g + 4 * (0 + 0 + 0 + 0) - (0 + 2 * 0 + 3 * 0) ≡ g = omega arith in
+      rw (ea, eb) (record { one = refl; two = refl })
+
+  pub lanes-turn : (i a0 a1 a2 a3 b0 b1 b2 b3 w0 w1 w2 w3 : ℕ)
+      → Sofar s f g i (a0 + a1 + a2 + a3) (g + 4 * (b0 + b1 + b2 + b3) - (a1 + 2 * a2 + 3 * a3)) → a1 ≤ b1 → a2 ≤ b2 → a3 ≤ b3 → i + 7 < length s
+      → w0 ≡ lowWordAt s i → w1 ≡ lowWordAt s (i + 2) → w2 ≡ lowWordAt s (i + 4) → w3 ≡ lowWordAt s (i + 6)
+      → Sofar s f g (i + 8) ((a0 + w0) + (a1 + w1) + (a2 + w2) + (a3 + w3))
+      (g + 4 * ((b0 + (a0 + w0)) + (b1 + (a1 + w1)) + (b2 + (a2 + w2)) + (b3 + (a3 + w3))) - ((a1 + w1) + 2 * (a2 + w2) + 3 * (a3 + w3)))
+  lanes-turn i a0 a1 a2 a3 b0 b1 b2 b3 w0 w1 w2 w3 sofar h1 h2 h3 h e0 e1 e2 e3 =
+      let a = a0 + a1 + a2 + a3 in
+      let b = g + 4 * (b0 + b1 + b2 + b3) - (a1 + 2 * a2 + 3 * a3) in
+      let ea : a + (w0 + w1 + w2 + w3) ≡ (a0 + w0) + (a1 + w1) + (a2 + w2) + (a3 + w3) = omega arith in
+      let eb : b + (4 * a + 4 * w0 + 3 * w1 + 2 * w2 + w3)
+      ≡ g + 4 * ((b0 + (a0 + w0)) + (b1 + (a1 + w1)) + (b2 + (a2 + w2)) + (b3 + (a3 + w3))) - ((a1 + w1) + 2 * (a2 + w2) + 3 * (a3 + w3)) = omega arith in
+      rw (eb, ea) at (four-more i a b w0 w1 w2 w3 sofar h e0 e1 e2 e3)
+
+  -- An odd last byte.
+  pub byte-more : (i a b w : ℕ) → Sofar s f g i a b → i + 1 ≡ length s → w ≡ getD s i 0 → Sofar s f g (i + 1) (a + w) (b + (a + w))
+  byte-more i a b w sofar h e =
+      let d : drop i s ≡ getD s i 0 ∷ [] = drop-cons s i 0 (omega arith) ∙ rw (drop-of-length-le s {i = suc i} (omega arith)) in
+      let z : drop (i + 1) s ≡ [] = drop-of-length-le s {i = i + 1} (omega arith) in
+      rw e
+      (record {
+        one = rw z (omega (arith, rw d at (sofar .one)));
+        two = rw z (omega (arith, rw d at (sofar .two)));
+      })
+
+  -- Once nothing is left, the sums are the totals.
+  pub at-end : (i a b : ℕ) → Sofar s f g i a b → length s ≤ i → (firstTotal f s ≡ a) × (secondTotal f g s ≡ b)
+  at-end i a b sofar h =
+      let e : drop i s ≡ [] = drop-of-length-le s h in
+      (omega (arith, rw e at (sofar .one)), omega (arith, rw e at (sofar .two)))
+
+  pub ordered-end : (i a b r : ℕ) → Sofar s f g i a b → length s ≤ i → r ≡ ordered a b → r ≡ ordered (firstTotal f s) (secondTotal f g s)
+  ordered-end i a b r sofar h e = let t = at-end i a b sofar h in e ∙ rw (t .0, t .1)
+
+-- ---- folding
+
+pub folded-positive : (x : ℕ) → (x ≡ 0 → ⊥) → (x - 1) % 65535 + 1 ≡ folded x
+folded-positive zero h = absurd (h refl)
+folded-positive (suc x) h = let e : suc x - 1 ≡ x = omega arith in rw e
+
+-- The same remainder.
+folded-more : (x k : ℕ) → 0 < x → folded (x + 65535 * k) ≡ folded x
+folded-more zero k h = absurd (omega arith)
+folded-more (suc x) k h =
+    let e : suc x + 65535 * k ≡ suc (x + 65535 * k) = omega arith in
+    rw (e, add-mul-mod-self-left x 65535 k)
+
+-- A shift by sixteen bits and an `or` join two numbers of sixteen bits.
+pub joined : (first second : ℕ) → first < 65536 → second < 65536 → bitOr (second * 65536 % 2 ^ 64) first ≡ second * 65536 + first
+joined first second hf hs =
+    let e : second * 65536 < 2 ^ 64 = omega arith in
+    rw (mod-eq-of-lt e) (or-shifted second 16 first hf)
+
+-- ---- the bytes put in order
+
+-- x is a total of the words, and y the same total of the words read low byte first.
+record Turned (x y : ℕ) : Type 0 where
+  by : ℕ
+  few : by ≤ x
+  equal : 256 * y ≡ x + 65535 * by
+
+turned-words : (s : List ℕ) → Turned (total (words s)) (total (lowWords s))
+turned-words [] = record { by = 0; few = omega arith; equal = omega arith }
+turned-words (x ∷ []) = record { by = 0; few = omega arith; equal = omega arith }
+turned-words (x ∷ y ∷ s) =
+    let t = turned-words s in record { by = y + t .by; few = omega arith; equal = omega arith }
+
+turned-totals : (s : List ℕ) (x y : ℕ) → Turned x y → Turned (total (runningTotals x (words s))) (total (runningTotals y (lowWords s)))
+turned-totals [] x y u = record { by = 0; few = omega arith; equal = omega arith }
+turned-totals (p ∷ []) x y u = record { by = u .by; few = omega arith; equal = omega arith }
+turned-totals (p ∷ q ∷ s) x y u =
+    let v : Turned (x + (p * 256 + q)) (y + (p + q * 256)) = record { by = u .by + q; few = omega arith; equal = omega arith } in
+    let t = turned-totals s (x + (p * 256 + q)) (y + (p + q * 256)) v in
+    record { by = v .by + t .by; few = omega arith; equal = omega arith }
+
+turned : (x y : ℕ) → Turned x y → folded (256 * folded y) ≡ folded x
+turned x zero t = let e : x ≡ 0 = omega arith in rw e
+turned x (suc y) t =
+    let d : 256 * (y % 65535 + 1) + 65535 * (256 * (y / 65535)) ≡ x + 65535 * t .by = omega arith in
+    sym (folded-more (256 * (y % 65535 + 1)) (256 * (y / 65535)) (omega arith)) ∙ rw d (folded-more x (t .by) (omega arith))
+
+in-order : (s : List ℕ) → ordered (firstTotal 0 s) (secondTotal 0 0 s) ≡ checksum s
+unfolding checksum
+in-order s =
+    let none : Turned 0 0 = record { by = 0; few = omega arith; equal = omega arith } in
+    rw (zero-add (total (lowWords s)), zero-add (total (runningTotals 0 (lowWords s))), turned _ _ (turned-words s), turned _ _ (turned-totals s 0 0 none))
+
+pub answer : (s : List ℕ) (r : ℕ) → r ≡ ordered (firstTotal 0 s) (secondTotal 0 0 s) → (r ≡ checksum s) × (r < 2 ^ 32)
+answer s r e = let k : r ≡ checksum s = e ∙ in-order s in (k, omega (arith, checksum-less s))

@@ -1,0 +1,10 @@
+use Rattle.header.proofs.Flags.{branching-mask}
+use borrow.Author.Needs.{needs}
+use Rattle.header.proofs.branching_allowed.Statement.{statement}
+use Rattle.header.proofs.branching_allowed.Tie as tie
+
+returns : tie.Need-returns
+returns c = branching-mask (c .args .flags)
+
+pub branching-allowed-spec : {M : Type 1} → statement M
+branching-allowed-spec = tie.close (tie.spec returns)

@@ -1,0 +1,30 @@
+use native.Mathlib.Omega.{arith}
+use borrow.Author.Needs.{needs}
+use Rattle.rules.proofs.Bytes.{number-add}
+use Rattle.numbers.proofs.get_u64.Statement.{statement}
+use Rattle.numbers.proofs.get_u64.Tie as tie
+
+get-u32-requires : tie.Need-get-u32-requires
+get-u32-requires c κs = search needs
+
+add-get-u32 : tie.Need-add-get-u32
+add-get-u32 c = search needs
+
+get-u32-requires-2 : tie.Need-get-u32-requires-2
+get-u32-requires-2 c κs = search needs
+
+mul-result : tie.Need-mul-result
+mul-result c = search needs
+
+add-result : tie.Need-add-result
+add-result c = search needs
+
+returns : tie.Need-returns
+returns c =
+    let a = c .before .before .before .args in
+    omega (arith, number-add 4 4 (a .bytes .now) (a .at) (search needs))
+
+pub get-u64-spec : {M : Type 1} → statement M
+get-u64-spec =
+    tie.close
+    (tie.spec get-u32-requires add-get-u32 get-u32-requires-2 mul-result add-result returns)

@@ -1,0 +1,128 @@
+// The numbers, signatures and runs of bytes that a history is made of, read from bytes and laid over them.
+ghost use mathlib.Core.Path.{_≡_};
+ghost use Prim.Native.Nat.{_+_, _^_, _≤_, _<_};
+ghost use lib.ListN.{length, replicate};
+ghost use Rattle.rules.specs.Bytes.{part, numberAt, numberBytes, laid, same};
+
+// A byte as a number to calculate with. A call of this asks its caller for no proof that the byte fits.
+pub fn wide(x: u8) -> u64
+    ensures { λ r. ⌜ (r ≡ x) × (r < 256) ⌝ }
+{
+    x as u64
+}
+
+// The number in the two bytes from an address.
+pub fn get_u16(bytes: &[u8], at: usize) -> u64
+    requires { ⌜ at + 2 ≤ length (now bytes) ⌝ }
+    ensures { λ r. ⌜ (r ≡ numberAt 2 (now (bytes .entry)) at) × (r < 2 ^ 16) ⌝ }
+{
+    let low = wide(bytes[at]);
+    let high = wide(bytes[at + 1]);
+    low + high * 256
+}
+
+// The number in the four bytes from an address. Its low half stands first, so it is put together from two numbers half as wide.
+pub fn get_u32(bytes: &[u8], at: usize) -> u64
+    requires { ⌜ at + 4 ≤ length (now bytes) ⌝ }
+    ensures { λ r. ⌜ (r ≡ numberAt 4 (now (bytes .entry)) at) × (r < 2 ^ 32) ⌝ }
+{
+    let low = get_u16(bytes, at);
+    let high = get_u16(bytes, at + 2);
+    low + high * 65536
+}
+
+// The number in the eight bytes from an address.
+pub fn get_u64(bytes: &[u8], at: usize) -> u64
+    requires { ⌜ at + 8 ≤ length (now bytes) ⌝ }
+    ensures { λ r. ⌜ r ≡ numberAt 8 (now (bytes .entry)) at ⌝ }
+{
+    let low = get_u32(bytes, at);
+    let high = get_u32(bytes, at + 4);
+    low + high * 4294967296
+}
+
+// Lays a number over the two bytes from an address. What does not fit in them is dropped.
+pub fn put_u16(bytes: &mut [u8], at: usize, value: u64)
+    requires { ⌜ at + 2 ≤ length (now bytes) ⌝ }
+    ensures { λ _. ⌜ now (bytes .exit) ≡ laid (now (bytes .entry)) at (numberBytes 2 value) ⌝ }
+{
+    bytes[at] = (value % 256) as u8;
+    bytes[at + 1] = (value / 256 % 256) as u8;
+}
+
+// Lays a number over the four bytes from an address.
+pub fn put_u32(bytes: &mut [u8], at: usize, value: u64)
+    requires { ⌜ at + 4 ≤ length (now bytes) ⌝ }
+    ensures { λ _. ⌜ now (bytes .exit) ≡ laid (now (bytes .entry)) at (numberBytes 4 value) ⌝ }
+{
+    put_u16(bytes, at, value);
+    put_u16(bytes, at + 2, value / 65536);
+}
+
+// Lays a number over the eight bytes from an address.
+pub fn put_u64(bytes: &mut [u8], at: usize, value: u64)
+    requires { ⌜ at + 8 ≤ length (now bytes) ⌝ }
+    ensures { λ _. ⌜ now (bytes .exit) ≡ laid (now (bytes .entry)) at (numberBytes 8 value) ⌝ }
+{
+    put_u32(bytes, at, value);
+    put_u32(bytes, at + 4, value / 4294967296);
+}
+
+// Whether the four bytes from an address are a signature. The tests are joined by `&`, which makes no branch: the answer is then the
+// rule's own term.
+pub fn has_signature(bytes: &[u8], at: usize, signature: [u8; 4]) -> bool
+    requires { ⌜ at + 4 ≤ length (now bytes) ⌝ }
+    ensures { λ r. ⌜ r ≡ same (part (now (bytes .entry)) at 4) signature ⌝ }
+{
+    (bytes[at] == signature[0])
+        & (bytes[at + 1] == signature[1])
+        & (bytes[at + 2] == signature[2])
+        & (bytes[at + 3] == signature[3])
+}
+
+// Lays a signature over the four bytes from an address.
+pub fn put_signature(bytes: &mut [u8], at: usize, signature: [u8; 4])
+    requires { ⌜ at + 4 ≤ length (now bytes) ⌝ }
+    ensures { λ _. ⌜ now (bytes .exit) ≡ laid (now (bytes .entry)) at signature ⌝ }
+{
+    bytes[at] = signature[0];
+    bytes[at + 1] = signature[1];
+    bytes[at + 2] = signature[2];
+    bytes[at + 3] = signature[3];
+}
+
+// Lays a run of bytes over others from an address on.
+pub fn put_run(bytes: &mut [u8], at: usize, run: &[u8])
+    requires { ⌜ at + length (now run) ≤ length (now bytes) ⌝ }
+    ensures { λ _. ⌜ now (bytes .exit) ≡ laid (now (bytes .entry)) at (now (run .entry)) ⌝ }
+{
+    let mut k = 0;
+    while k < run.len() {
+        bytes[at + k] = run[k];
+        k += 1;
+    }
+}
+
+// Copies n bytes to an address above them. The two places do not meet, so no byte is written before it is read.
+pub fn copy_run(bytes: &mut [u8], from: usize, to: usize, n: usize)
+    requires { ⌜ (from + n ≤ to) × (to + n ≤ length (now bytes)) ⌝ }
+    ensures { λ _. ⌜ now (bytes .exit) ≡ laid (now (bytes .entry)) to (part (now (bytes .entry)) from n) ⌝ }
+{
+    let mut k = 0;
+    while k < n {
+        bytes[to + k] = bytes[from + k];
+        k += 1;
+    }
+}
+
+// Lays n zeros over the bytes from an address on.
+pub fn put_zeros(bytes: &mut [u8], at: usize, n: usize)
+    requires { ⌜ at + n ≤ length (now bytes) ⌝ }
+    ensures { λ _. ⌜ now (bytes .exit) ≡ laid (now (bytes .entry)) at (replicate n 0) ⌝ }
+{
+    let mut k = 0;
+    while k < n {
+        bytes[at + k] = 0;
+        k += 1;
+    }
+}

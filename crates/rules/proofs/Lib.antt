@@ -1,0 +1,4 @@
+pub mod Bytes
+pub mod Checksum
+pub mod Rows
+pub mod Examples

@@ -1,0 +1,291 @@
+-- Document 01, "Sizes allowed" and "Layout of the history": each part as the bytes that are written and as the fields that are read.
+use Prim.Native.Nat.{ℕ, zero, suc, _+_, _*_, _-_, _/_, _%_}
+use mathlib.Core.Bool.{Bool, true, false, not, cond, _&&_, _||_}
+use mathlib.Core.List.{List, [], _∷_, _++_}
+use lib.Dec.{leb, ltb, eqb}
+use lib.ListN.{length, replicate}
+use Rattle.rules.specs.Bytes.{byteAt, part, numberAt, numberBytes, same}
+use Rattle.rules.specs.Checksum.{checksum}
+use Rattle.rules.specs.declared.Setting.{Setting}
+use Rattle.rules.specs.declared.Record.{Record}
+use Rattle.rules.specs.declared.Entry.{Entry}
+
+-- ---- Sizes allowed
+
+-- "page size p: a power of two, 16 to 4,096". The divisors of 4,096 are the powers of two up to it.
+unfoldable pub pageAllowed : ℕ → Bool
+pageAllowed p = leb 16 p && eqb (4096 % p) 0
+
+-- "original, logical size, history buffer: at most 16,777,216 bytes each"
+abbrev pub limit : ℕ
+limit = 16777216
+
+-- "revisions: at most 1,024"
+abbrev pub revisionLimit : ℕ
+revisionLimit = 1024
+
+-- "index entries in a record: at most 4,096"
+abbrev pub entryLimit : ℕ
+entryLimit = 4096
+
+-- "pages touched in a session: at most 256"
+abbrev pub touchLimit : ℕ
+touchLimit = 256
+
+-- "user name / comment with closing zero: 1 to 64 / 1 to 256 bytes"
+abbrev pub nameLimit : ℕ
+nameLimit = 64
+
+abbrev pub commentLimit : ℕ
+commentLimit = 256
+
+-- ---- Signatures and checksums
+
+-- "The four-letter signatures of header and whole history are taken from 001; the record's is ORRS": OHDH, OWHR and ORRS.
+abbrev pub headerSignature : List ℕ
+headerSignature = 0x4F ∷ 0x48 ∷ 0x44 ∷ 0x48 ∷ []
+
+abbrev pub wholeSignature : List ℕ
+wholeSignature = 0x4F ∷ 0x57 ∷ 0x48 ∷ 0x52 ∷ []
+
+abbrev pub recordSignature : List ℕ
+recordSignature = 0x4F ∷ 0x52 ∷ 0x52 ∷ 0x53 ∷ []
+
+-- "version 1, three reserved"; "Reserved bytes are zero."
+abbrev pub versionBytes : List ℕ
+versionBytes = 1 ∷ 0 ∷ 0 ∷ 0 ∷ []
+
+-- A part that ends in the "checksum of all before it (4)".
+unfoldable pub summed : List ℕ → List ℕ
+summed bytes = bytes ++ numberBytes 4 (checksum bytes)
+
+-- Whether the four bytes at an address are the checksum of n bytes from another.
+unfoldable pub sumStands : List ℕ → ℕ → ℕ → ℕ → Bool
+sumStands history at n sumAt = eqb (numberAt 4 history sumAt) (checksum (part history at n))
+
+-- ---- Ends and widths, by name
+
+-- Where a part of the history ends that stands at an address and has a size.
+abbrev pub endOf : Setting → ℕ → ℕ → ℕ
+endOf s at size = at + size
+
+-- The least address of a whole history is the end of the header's 40 bytes, and that of a record or a page the end of the
+-- empty whole history behind it.
+abbrev pub headerEnd : Setting → ℕ
+headerEnd s = endOf s 0 40
+
+abbrev pub emptyEnd : Setting → ℕ
+emptyEnd s = endOf s (headerEnd s) 20
+
+-- The bytes of an entry, of a record's fields ahead of its entries, and of a record without its entries, name and comment.
+abbrev pub entryWidth : ℕ
+entryWidth = 24
+
+abbrev pub frontWidth : ℕ
+frontWidth = 72
+
+abbrev pub bareWidth : ℕ
+bareWidth = 76
+
+-- ---- Header
+
+-- "Flag bit 0 is the write lock, bit 1 allows branching; others are zero."
+unfoldable pub flagsOf : Setting → ℕ
+flagsOf s = cond (s .lock) 1 0 + cond (s .branching) 2 0
+
+-- "Header, 40 bytes: signature 0..3, version 1 at 4, flags 5..7, page size 8..11, original's length 12..19, whole history's
+-- address 20..27, its size 28..35,
+unfoldable pub headerFront : Setting → List ℕ
+headerFront s =
+    headerSignature ++ (1 ∷ []) ++ numberBytes 3 (flagsOf s) ++ numberBytes 4 (s .page) ++ numberBytes 8 (s .original)
+    ++ numberBytes 8 (s .address)
+    ++ numberBytes 8 (s .size)
+
+--  checksum of bytes 0..35 at 36..39."
+unfoldable pub headerBytes : Setting → List ℕ
+headerBytes s = summed (headerFront s)
+
+-- The same fields read, with a count that does not stand in the header;
+unfoldable pub settingWith : List ℕ → ℕ → Setting
+settingWith history count = record {
+  page = numberAt 4 history 8;
+  original = numberAt 8 history 12;
+  address = numberAt 8 history 20;
+  size = numberAt 8 history 28;
+  count = count;
+  lock = eqb (byteAt history 5 % 2) 1;
+  branching = eqb (byteAt history 5 / 2 % 2) 1;
+}
+
+-- and with the whole history's count, which stands behind its signature and version.
+unfoldable pub settingOf : List ℕ → Setting
+settingOf history = settingWith history (numberAt 8 history (numberAt 8 history 20 + 8))
+
+-- The setting with its lock set or clear.
+abbrev pub withLock : Bool → Setting → Setting
+withLock lock s = record {
+  page = s .page;
+  original = s .original;
+  address = s .address;
+  size = s .size;
+  count = s .count;
+  lock = lock;
+  branching = s .branching;
+}
+
+-- "The committed end is the whole history's address plus its size."
+abbrev pub committedEnd : Setting → ℕ
+committedEnd s = endOf s (s .address) (s .size)
+
+-- ---- Whole history
+
+-- "Whole history, 20 + 20n bytes:
+abbrev pub wholeSize : ℕ → ℕ
+wholeSize n = 20 + 20 * n
+
+--  signature, version 1, three reserved, count n (8), n locations, checksum of all before it (4)."
+unfoldable pub wholeBytes : ℕ → List ℕ → List ℕ
+wholeBytes n locations = summed (wholeSignature ++ versionBytes ++ numberBytes 8 n ++ locations)
+
+-- "A location is record address (8), record size (8), checksum of those 16 bytes (4)."
+unfoldable pub locationBytes : ℕ → ℕ → List ℕ
+locationBytes at size = summed (numberBytes 8 at ++ numberBytes 8 size)
+
+-- "Location k, counted from 1, belongs to revision k": where it stands.
+abbrev pub locationAt : Setting → ℕ → ℕ
+locationAt s k = s .address + 16 + 20 * (k - 1)
+
+-- ---- Entry
+
+-- "Entry, 24 bytes: logical address (8), physical address (8), page checksum (4), checksum of the first 16 bytes (4)."
+unfoldable pub entryBytes : Entry → List ℕ
+entryBytes e =
+    let place = numberBytes 8 (e .logical) ++ numberBytes 8 (e .physical) in
+    place ++ numberBytes 4 (e .checksum) ++ numberBytes 4 (checksum place)
+
+unfoldable pub indexBytes : List Entry → List ℕ
+indexBytes [] = []
+indexBytes (e ∷ index) = entryBytes e ++ indexBytes index
+
+-- The same fields read.
+abbrev pub entryAt : List ℕ → ℕ → Entry
+entryAt history at = record {
+  logical = numberAt 8 history at;
+  physical = numberAt 8 history (at + 8);
+  checksum = numberAt 4 history (at + 16);
+}
+
+-- The n entries from an address.
+unfoldable pub entriesAt : List ℕ → ℕ → ℕ → List Entry
+entriesAt history at zero = []
+entriesAt history at (suc n) = entryAt history at ∷ entriesAt history (at + entryWidth) n
+
+-- ---- Record
+
+-- "Its size is 76 + 24 x entries + name size + comment size."
+abbrev pub recordSize : ℕ → ℕ → ℕ → ℕ
+recordSize entries name comment = bareWidth + entryWidth * entries + name + comment
+
+-- "Record: ORRS, version 1, three reserved, revision (8), parent (8), time (16), logical size (8), page size (4), user ID (4),
+-- entry count (8), name size (4), comment size (4), entries, name, comment, checksum of all before it (4)."
+unfoldable pub recordBytes : ℕ → ℕ → List ℕ → ℕ → ℕ → ℕ → List Entry → List ℕ → List ℕ → List ℕ
+recordBytes revision parent time logical page user index name comment =
+    summed
+    (recordSignature ++ versionBytes ++ numberBytes 8 revision ++ numberBytes 8 parent ++ time ++ numberBytes 8 logical
+    ++ numberBytes 4 page
+    ++ numberBytes 4 user
+    ++ numberBytes 8 (length index)
+    ++ numberBytes 4 (length name)
+    ++ numberBytes 4 (length comment)
+    ++ indexBytes index
+    ++ name
+    ++ comment)
+
+-- The same fields read, of the record at an address that its location says to have a size.
+unfoldable pub recordAt : List ℕ → ℕ → ℕ → Record
+recordAt history at size = record {
+  address = at;
+  size = size;
+  revision = numberAt 8 history (at + 8);
+  parent = numberAt 8 history (at + 16);
+  logical = numberAt 8 history (at + 40);
+  page = numberAt 4 history (at + 48);
+  entries = numberAt 8 history (at + 56);
+  name = numberAt 4 history (at + 64);
+  comment = numberAt 4 history (at + 68);
+}
+
+abbrev pub timeOf : List ℕ → Record → List ℕ
+timeOf history r = part history (r .address + 24) 16
+
+-- The record's index, its name and its comment.
+abbrev pub indexOf : List ℕ → Record → List Entry
+indexOf history r = entriesAt history (r .address + frontWidth) (r .entries)
+
+abbrev pub nameOf : List ℕ → Record → List ℕ
+nameOf history r = part history (r .address + frontWidth + entryWidth * r .entries) (r .name)
+
+abbrev pub commentOf : List ℕ → Record → List ℕ
+commentOf history r = part history (r .address + frontWidth + entryWidth * r .entries + r .name) (r .comment)
+
+-- "Revision 0 is the original; it has no record": in a record's place stands one with no entries and the original's length.
+abbrev pub noRecord : Setting → Record
+noRecord s = record {
+  address = 0;
+  size = 0;
+  revision = 0;
+  parent = 0;
+  logical = s .original;
+  page = s .page;
+  entries = 0;
+  name = 0;
+  comment = 0;
+}
+
+-- The record of a revision.
+unfoldable pub recordOf : List ℕ → Setting → ℕ → Record
+recordOf history s zero = noRecord s
+recordOf history s (suc k) =
+    recordAt history (numberAt 8 history (locationAt s (suc k))) (numberAt 8 history (locationAt s (suc k) + 8))
+
+-- ---- Time, name and comment
+
+abbrev pub within : ℕ → ℕ → ℕ → Bool
+within low high x = leb low x && leb x high
+
+abbrev pub digit : ℕ → Bool
+digit x = within 0x30 0x39 x
+
+abbrev pub digits : List ℕ → Bool
+digits [] = true
+digits (x ∷ xs) = digit x && digits xs
+
+-- The number of two digits.
+abbrev pub twoDigits : List ℕ → ℕ → ℕ
+twoDigits time at = 10 * (byteAt time at - 0x30) + (byteAt time (at + 1) - 0x30)
+
+-- "Time is YYYYMMDDThhmmssZ in digits: month 01 to 12, day 01 to 31, hour to 23, minute and second to 59."
+unfoldable pub timeRight : List ℕ → Bool
+timeRight time =
+    eqb (length time) 16
+    && digits (part time 0 8)
+    && eqb (byteAt time 8) 0x54
+    && digits (part time 9 6)
+    && eqb (byteAt time 15) 0x5A
+    && within 1 12 (twoDigits time 4)
+    && within 1 31 (twoDigits time 6)
+    && leb (twoDigits time 9) 23
+    && leb (twoDigits time 11) 59
+    && leb (twoDigits time 13) 59
+
+-- "Name and comment are bytes 0x20 to 0x7E and end in their only zero byte."
+unfoldable pub textRight : List ℕ → Bool
+textRight [] = false
+textRight (x ∷ []) = eqb x 0
+textRight (x ∷ y ∷ rest) = within 0x20 0x7E x && textRight (y ∷ rest)
+
+abbrev pub nameRight : List ℕ → Bool
+nameRight name = textRight name && leb (length name) nameLimit
+
+abbrev pub commentRight : List ℕ → Bool
+commentRight comment = textRight comment && leb (length comment) commentLimit

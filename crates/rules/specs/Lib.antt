@@ -1,0 +1,9 @@
+pub mod Bytes
+pub mod Checksum
+pub mod Layout
+pub mod View
+pub mod Session
+pub mod Rows
+pub mod Calls
+pub mod Listing
+pub mod History

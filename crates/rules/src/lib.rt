@@ -1,0 +1,76 @@
+// The plain data that document 01 speaks of. What it means stands in specs/, one file a section of the paper.
+
+// What a history says of itself: its page size, the original's length, the whole history's address and size, how many
+// revisions stand, whether the write lock is set and whether branching is allowed. It is read once and handed on.
+pub struct Setting {
+    pub page: u64,
+    pub original: u64,
+    pub address: u64,
+    pub size: u64,
+    pub count: u64,
+    pub lock: bool,
+    pub branching: bool,
+}
+
+// What a revision's record says of itself: where it stands and its size, its revision and parent, the revision's logical
+// size, the page size, how many index entries it has, and the sizes of name and comment.
+pub struct Record {
+    pub address: u64,
+    pub size: u64,
+    pub revision: u64,
+    pub parent: u64,
+    pub logical: u64,
+    pub page: u64,
+    pub entries: u64,
+    pub name: u64,
+    pub comment: u64,
+}
+
+// An index entry: a page's logical and physical address, and its checksum.
+pub struct Entry {
+    pub logical: u64,
+    pub physical: u64,
+    pub checksum: u64,
+}
+
+// A session's state: the committed end and the count that it was opened at, its parent, its logical size, and the n pages
+// that it touched, in the order of first touch. Page i of them lies i page sizes after the end. The slots past n are unused.
+pub struct State {
+    pub end: u64,
+    pub count: u64,
+    pub parent: u64,
+    pub size: u64,
+    pub n: u64,
+    pub pages: [u32; 256],
+}
+
+// A page as a part of the original (source 0) or of the history (source 1). All zeros but the number where it is refused.
+pub struct Found {
+    pub number: u64,
+    pub source: u64,
+    pub offset: u64,
+    pub length: u64,
+}
+
+// The first fault of a history, with its revision and its entry; 0 where none is named.
+pub struct Checked {
+    pub number: u64,
+    pub revision: u64,
+    pub entry: u64,
+}
+
+// Where a revision's record stands in the history: of length 0 for revision 0 and where it is refused.
+pub struct Browsed {
+    pub number: u64,
+    pub offset: u64,
+    pub length: u64,
+}
+
+// One step of browsing: kind 0 an entry, 1 the end, 7 refused. All zeros but the kind unless it is an entry.
+pub struct Step {
+    pub kind: u64,
+    pub logical: u64,
+    pub physical: u64,
+    pub page_sum: u64,
+    pub entry_sum: u64,
+}

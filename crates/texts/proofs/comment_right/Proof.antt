@@ -1,0 +1,12 @@
+use borrow.Author.Needs.{needs}
+use Rattle.texts.proofs.comment_right.Statement.{statement}
+use Rattle.texts.proofs.comment_right.Tie as tie
+
+text-right-requires : tie.Need-text-right-requires
+text-right-requires c κs = search needs
+
+returns : tie.Need-returns
+returns c = cc
+
+pub comment-right-spec : {M : Type 1} → statement M
+comment-right-spec = tie.close (tie.spec text-right-requires returns)
