@@ -6,7 +6,7 @@ ghost use Prim.Native.Nat.{_+_, _*_, _/_, _%_, _≤_, _<_};
 ghost use lib.Dec.{eqb, ltb};
 ghost use lib.ListN.{length};
 ghost use Rattle.rules.specs.Bytes.{laid};
-ghost use Rattle.rules.specs.Layout.{pageAllowed, sumStands, flagsOf, headerFront, headerBytes, settingWith};
+ghost use Rattle.rules.specs.Layout.{pageAllowed, sumStands, sumsStand, flagsOf, headerFront, headerBytes, settingWith};
 ghost use Rattle.rules.specs.Rows.{lengthWrong, headerWrong, headerSumWrong};
 ghost use Rattle.rules.specs.Calls.{headerRows};
 
@@ -44,6 +44,23 @@ pub fn sum_stands(history: &[u8], at: usize, n: usize, sum_at: usize) -> bool
 {
     let to = at + n;
     numbers::get_u32(history, sum_at) == checksum::fletcher32(&history[at..to])
+}
+
+// The same of n locations or entries of a width from an address on: at an offset in each stands the checksum of its first 16 bytes.
+pub fn sums_stand(history: &[u8], at: usize, n: usize, width: usize, offset: usize) -> bool
+    requires { ⌜ (at + n * width ≤ length (now history)) × (length (now history) ≤ 16777216) × (16 ≤ width) × (offset + 4 ≤ width) ⌝ }
+    ensures { λ r. ⌜ r ≡ sumsStand width offset (now (history .entry)) at n ⌝ }
+{
+    let mut place = at;
+    let mut i: usize = 0;
+    while i < n {
+        if !sum_stands(history, place, 16, place + offset) {
+            return false;
+        }
+        place += width;
+        i += 1;
+    }
+    true
 }
 
 // No bit is set but the lock and branching.

@@ -11,6 +11,7 @@ use Rattle.rules.specs.Layout.{
   pageAllowed,
   summed,
   sumStands,
+  sumsStand,
   flagsOf,
   headerFront,
   headerBytes,
@@ -51,14 +52,12 @@ use Rattle.rules.specs.Rows.{
   headerWrong,
   headerSumWrong,
   originalWrong,
-  locationSums,
   wholeWrong,
   revisionUnknown,
   entriesRight,
   recordLies,
   recordFields,
   recordWrong,
-  entrySums,
   recordSumWrong,
   pageSumWrong,
   pagesWrong,
@@ -239,9 +238,9 @@ pub examples-hold : holds table ≡ true
 unfolding
     table history firstOpen firstWrite firstCommit secondOpen secondWrite secondCommit secondIndex
     valueOf numberBytes laid tabulate checksum
-    pageAllowed summed sumStands flagsOf headerFront headerBytes settingWith settingOf wholeBytes locationBytes entryBytes indexBytes entriesAt recordBytes recordAt recordOf timeRight textRight
+    pageAllowed summed sumStands sumsStand flagsOf headerFront headerBytes settingWith settingOf wholeBytes locationBytes entryBytes indexBytes entriesAt recordBytes recordAt recordOf timeRight textRight
     placeOf revisionByte sessionByte pagesFrom pagesIn
     created locked firstCopy touched laidOnPage writtenPages written touching put putAll mergedIndex mergedCount committed
-    lengthWrong headerWrong headerSumWrong originalWrong locationSums wholeWrong revisionUnknown entriesRight recordLies recordFields recordWrong entrySums recordSumWrong pageSumWrong pagesWrong readOutside writeOutside notNewest pagesFit sessionWrong sizeBelowParent tooMany noRoom textsWrong creationWrong full writeTooFar
+    lengthWrong headerWrong headerSumWrong originalWrong  wholeWrong revisionUnknown entriesRight recordLies recordFields recordWrong  recordSumWrong pageSumWrong pagesWrong readOutside writeOutside notNewest pagesFit sessionWrong sizeBelowParent tooMany noRoom textsWrong creationWrong full writeTooFar
     row _then_ headerRows historyRows bothRows recordRows sessionRows asked createRows create readRows readBytes read openRows openForWriting writeRows write commitRows commit
 examples-hold = refl

@@ -1,4 +1,5 @@
 pub mod Bytes
 pub mod Checksum
 pub mod Rows
+pub mod Index
 pub mod Examples

@@ -63,6 +63,13 @@ summed bytes = bytes ++ numberBytes 4 (checksum bytes)
 unfoldable pub sumStands : List ℕ → ℕ → ℕ → ℕ → Bool
 sumStands history at n sumAt = eqb (numberAt 4 history sumAt) (checksum (part history at n))
 
+-- The same of n locations or entries, each so many bytes wide, from an address on: at an offset in each stands the checksum of
+-- its first 16 bytes.
+unfoldable pub sumsStand : ℕ → ℕ → List ℕ → ℕ → ℕ → Bool
+sumsStand width offset history at zero = true
+sumsStand width offset history at (suc n) =
+    sumStands history at 16 (at + offset) && sumsStand width offset history (at + width) n
+
 -- ---- Ends and widths, by name
 
 -- Where a part of the history ends that stands at an address and has a size.

@@ -19,6 +19,7 @@ use Rattle.rules.specs.Layout.{
   recordSignature,
   versionBytes,
   sumStands,
+  sumsStand,
   endOf,
   headerEnd,
   emptyEnd,
@@ -73,10 +74,6 @@ originalWrong length s = not (eqb length (s .original))
 
 -- 5: "whole history: address below 40, past the buffer, size not 20 + 20n, n over 1,024, or a signature, version, reserved byte
 -- or checksum in it wrong, location checksums included"
-unfoldable pub locationSums : List ℕ → ℕ → ℕ → Bool
-locationSums history at zero = true
-locationSums history at (suc n) = sumStands history at 16 (at + 16) && locationSums history (at + 20) n
-
 unfoldable pub wholeWrong : List ℕ → Setting → Bool
 wholeWrong history s =
     not
@@ -87,7 +84,7 @@ wholeWrong history s =
     && same (part history (s .address) 4) wholeSignature
     && same (part history (s .address + 4) 4) versionBytes
     && sumStands history (s .address) (s .size - 4) (s .address + (s .size - 4))
-    && locationSums history (locationAt s 1) (s .count))
+    && sumsStand 20 16 history (locationAt s 1) (s .count))
 
 -- 6: "revision above n and not 2^64 - 1"
 abbrev pub newest : ℕ
@@ -142,15 +139,11 @@ recordWrong history s k r =
     && textRight (commentOf history r))
 
 -- 8: "record or entry checksum wrong"
-unfoldable pub entrySums : List ℕ → ℕ → ℕ → Bool
-entrySums history at zero = true
-entrySums history at (suc n) = sumStands history at 16 (at + 20) && entrySums history (at + entryWidth) n
-
 unfoldable pub recordSumWrong : List ℕ → Record → Bool
 recordSumWrong history r =
     not
     (sumStands history (r .address) (r .size - 4) (r .address + (r .size - 4))
-    && entrySums history (r .address + frontWidth) (r .entries))
+    && sumsStand entryWidth 20 history (r .address + frontWidth) (r .entries))
 
 -- 9: "page checksum wrong"
 unfoldable pub pageSumWrong : List ℕ → ℕ → Entry → Bool
