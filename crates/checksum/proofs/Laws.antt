@@ -1,14 +1,16 @@
 -- The exact totals, passed word by word, and the bytes put in order at the end.
-use mathlib.Core.Path.{_≡_, refl, sym, _∙_}
-use mathlib.Core.List.{List, [], _∷_}
+use mathlib.Core.Path.{_≡_, refl, sym, ap, _∙_}
+use mathlib.Core.List.{List, [], _∷_, _++_}
 use Prim.Native.Nat.{ℕ, zero, suc, _+_, _*_, _-_, _/_, _%_, _^_, _≤_, _<_}
 use native.Mathlib.Numerals.{add-one}
-use native.Mathlib.Nat.{zero-add, add-assoc, mod-eq-of-lt, add-mul-mod-self-left}
+use native.Mathlib.Nat.{zero-add, add-zero, add-assoc, mod-eq-of-lt, add-mul-mod-self-left}
 use native.Mathlib.Omega.{arith}
 use lib.Bits.{bitOr, or-shifted}
-use lib.ListN.{length, drop, getD, drop-of-length-le}
-use lib.Seq.{drop-cons}
+use lib.ListN.{length, drop, getD, length-drop, take-append-drop, drop-of-length-le}
+use lib.Seq.{take-all, drop-cons, drop-drop}
+use Rattle.rules.specs.Bytes.{part}
 use Rattle.rules.specs.Checksum.{words, total, runningTotals, folded, checksum}
+use Rattle.rules.proofs.Bytes.{length-part}
 use Rattle.rules.proofs.Checksum.{checksum-less}
 use Rattle.checksum.specs.Passing.{lowWords, lowWordAt, firstTotal, secondTotal, ordered, Sofar}
 
@@ -23,8 +25,8 @@ module _ (s : List ℕ) (f g : ℕ) where
   word-more i a b w sofar h e =
       rw e
       (record {
-        one = omega (arith, rw (two-bytes s i h) at (sofar .one));
-        two = omega (arith, rw (two-bytes s i h) at (sofar .two));
+        first-same = omega (arith, rw (two-bytes s i h) at (sofar .first-same));
+        second-same = omega (arith, rw (two-bytes s i h) at (sofar .second-same));
       })
 
   -- Four words more.
@@ -45,7 +47,7 @@ module _ (s : List ℕ) (f g : ℕ) where
   lanes-start =
       let ea : f + 0 + 0 + 0 ≡ f = omega arith in
       let eb : g + 4 * (0 + 0 + 0 + 0) - (0 + 2 * 0 + 3 * 0) ≡ g = omega arith in
-      rw (ea, eb) (record { one = refl; two = refl })
+      rw (ea, eb) (record { first-same = refl; second-same = refl })
 
   pub lanes-turn : (i a0 a1 a2 a3 b0 b1 b2 b3 w0 w1 w2 w3 : ℕ)
       → Sofar s f g i (a0 + a1 + a2 + a3) (g + 4 * (b0 + b1 + b2 + b3) - (a1 + 2 * a2 + 3 * a3)) → a1 ≤ b1 → a2 ≤ b2 → a3 ≤ b3 → i + 7 < length s
@@ -67,15 +69,15 @@ module _ (s : List ℕ) (f g : ℕ) where
       let z : drop (i + 1) s ≡ [] = drop-of-length-le s {i = i + 1} (omega arith) in
       rw e
       (record {
-        one = rw z (omega (arith, rw d at (sofar .one)));
-        two = rw z (omega (arith, rw d at (sofar .two)));
+        first-same = rw z (omega (arith, rw d at (sofar .first-same)));
+        second-same = rw z (omega (arith, rw d at (sofar .second-same)));
       })
 
   -- Once nothing is left, the sums are the totals.
   pub at-end : (i a b : ℕ) → Sofar s f g i a b → length s ≤ i → (firstTotal f s ≡ a) × (secondTotal f g s ≡ b)
   at-end i a b sofar h =
       let e : drop i s ≡ [] = drop-of-length-le s h in
-      (omega (arith, rw e at (sofar .one)), omega (arith, rw e at (sofar .two)))
+      (omega (arith, rw e at (sofar .first-same)), omega (arith, rw e at (sofar .second-same)))
 
   pub ordered-end : (i a b r : ℕ) → Sofar s f g i a b → length s ≤ i → r ≡ ordered a b → r ≡ ordered (firstTotal f s) (secondTotal f g s)
   ordered-end i a b r sofar h e = let t = at-end i a b sofar h in e ∙ rw (t .0, t .1)
@@ -135,3 +137,77 @@ in-order s =
 
 pub answer : (s : List ℕ) (r : ℕ) → r ≡ ordered (firstTotal 0 s) (secondTotal 0 0 s) → (r ≡ checksum s) × (r < 2 ^ 32)
 answer s r e = let k : r ≡ checksum s = e ∙ in-order s in (k, omega (arith, checksum-less s))
+
+-- ---- block by block
+
+folded-add : (x k : ℕ) → folded (folded x + k) ≡ folded (x + k)
+folded-add zero k = refl
+folded-add (suc x) k =
+    let e : x % 65535 + 1 + k + 65535 * (x / 65535) ≡ suc x + k = omega arith in
+    sym (folded-more (x % 65535 + 1 + k) (x / 65535) (omega arith)) ∙ rw e
+
+-- x is y, and 65,535 some times over.
+record Shifted (x y : ℕ) : Type 0 where
+  by : ℕ
+  equal : x ≡ y + 65535 * by
+
+shifted : (f q : ℕ) (ws : List ℕ) → Shifted (total (runningTotals (f + 65535 * q) ws)) (total (runningTotals f ws))
+shifted f q [] = record { by = 0; equal = omega arith }
+shifted f q (w ∷ ws) =
+    let e : f + 65535 * q + w ≡ f + w + 65535 * q = omega arith in
+    let t = shifted (f + w) q ws in
+    record { by = q + t .by; equal = rw e (omega arith) }
+
+folded-running : (x b : ℕ) (ws : List ℕ) → folded (b + total (runningTotals (folded x) ws)) ≡ folded (b + total (runningTotals x ws))
+folded-running zero b ws = refl
+folded-running (suc x) b [] = refl
+folded-running (suc x) b (w ∷ ws) =
+    let e : suc x ≡ x % 65535 + 1 + 65535 * (x / 65535) = omega arith in
+    let t = shifted (x % 65535 + 1) (x / 65535) (w ∷ ws) in
+    let d : b + total (runningTotals (x % 65535 + 1) (w ∷ ws)) + 65535 * t .by ≡ b + total (runningTotals (suc x) (w ∷ ws)) = rw e (omega (arith, t .equal)) in
+    sym (folded-more (b + total (runningTotals (x % 65535 + 1) (w ∷ ws))) (t .by) (omega arith)) ∙ ap folded d
+
+low-append : (xs ys : List ℕ) → length xs % 2 ≡ 0 → total (lowWords (xs ++ ys)) ≡ total (lowWords xs) + total (lowWords ys)
+low-append [] ys h = omega arith
+low-append (x ∷ []) ys h = absurd (omega arith)
+low-append (x ∷ y ∷ xs) ys h = omega (arith, low-append xs ys (omega arith))
+
+running-append : (xs ys : List ℕ) (f : ℕ) → length xs % 2 ≡ 0
+    → total (runningTotals f (lowWords (xs ++ ys))) ≡ total (runningTotals f (lowWords xs)) + total (runningTotals (f + total (lowWords xs)) (lowWords ys))
+running-append [] ys f h = rw add-zero (omega arith)
+running-append (x ∷ []) ys f h = absurd (omega arith)
+running-append (x ∷ y ∷ xs) ys f h =
+    let e : f + (x + y * 256 + total (lowWords xs)) ≡ f + (x + y * 256) + total (lowWords xs) = omega arith in
+    rw e (omega (arith, running-append xs ys (f + (x + y * 256)) (omega arith)))
+
+-- After `at` bytes the sums, which may have been folded, still lead to the totals' remainders.
+pub record Folding (s : List ℕ) (at first second : ℕ) : Type 0 where
+  pub first-same : folded (firstTotal first (drop at s)) ≡ folded (firstTotal 0 s)
+  pub second-same : folded (secondTotal first second (drop at s)) ≡ folded (secondTotal 0 0 s)
+
+-- A block more, which the lanes pass whole: its number of bytes is a multiple of eight.
+pub block-more : (s : List ℕ) (at end f g i a b x y : ℕ) → Folding s at f g → at ≤ end → end ≤ length s → (end - at) % 8 ≡ 0
+    → Sofar (part s at (end - at)) f g i a b → i % 8 ≡ 0 → length (part s at (end - at)) < i + 8 → x ≡ folded a → y ≡ folded b → Folding s end x y
+block-more s at end f g i a b x y before low high whole sofar turns past ex ey =
+    let block = part s at (end - at) in
+    let rest = drop end s in
+    let total-length : at + (end - at) ≡ end = omega arith in
+    let long : length block ≡ end - at = length-part s at (end - at) (omega arith) in
+    let ended = at-end block f g i a b sofar (omega arith) in
+    let cut : drop at s ≡ block ++ rest = sym (take-append-drop (end - at) (drop at s)) ∙ rw (drop-drop, total-length) in
+    let parity : length block % 2 ≡ 0 = omega arith in
+    let first : firstTotal a rest ≡ firstTotal f (drop at s) = rw cut (omega (arith, low-append block rest parity, ended .0)) in
+    let second : secondTotal a b rest ≡ secondTotal f g (drop at s) =
+    rw cut (omega (arith, rw (ended .0) at (running-append block rest f parity), ended .1)) in
+    rw (ex, ey)
+    (record {
+      first-same = folded-add a (total (lowWords rest)) ∙ ap folded first ∙ before .first-same;
+      second-same = folded-add b (total (runningTotals (folded a) (lowWords rest))) ∙ folded-running a b (lowWords rest) ∙ ap folded second ∙ before .second-same;
+    })
+
+-- What is left is the last block.
+pub any-answer : (s : List ℕ) (at f g r : ℕ) → Folding s at f g → at ≤ length s
+    → r ≡ ordered (firstTotal f (part s at (length s - at))) (secondTotal f g (part s at (length s - at))) → (r ≡ checksum s) × (r < 2 ^ 32)
+any-answer s at f g r folding h e =
+    let all : part s at (length s - at) ≡ drop at s = take-all (length s - at) (drop at s) (rw length-drop (omega arith)) in
+    answer s r (rw all at e ∙ rw (folding .first-same, folding .second-same))

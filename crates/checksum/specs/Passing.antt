@@ -28,8 +28,8 @@ ordered first second = folded (256 * folded second) * 65536 + folded (256 * fold
 
 -- From the sums first and second at the start, the sums after `at` bytes are a and b: what is left then leads to the same totals.
 pub record Sofar (bytes : List ℕ) (first second at a b : ℕ) : Type 0 where
-  pub one : firstTotal first bytes ≡ firstTotal a (drop at bytes)
-  pub two : secondTotal first second bytes ≡ secondTotal a b (drop at bytes)
+  pub first-same : firstTotal first bytes ≡ firstTotal a (drop at bytes)
+  pub second-same : secondTotal first second bytes ≡ secondTotal a b (drop at bytes)
 
 -- The same with the bounds that keep the sums within 64 bits.
 pub record Sums (bytes : List ℕ) (first second at a b : ℕ) : Type 0 where

@@ -1,7 +1,8 @@
 // Fletcher-32.
 //
-// The words are read low byte first and put in order once, at the end. The totals of a block are exact, so no turn of the loop divides.
-// Four lanes each sum every fourth word, so that four words are added at a time: the second sum follows from the lanes' own sums.
+// The words are read low byte first, as the machine reads them, and the bytes of the two sums are put in order once, at the end. The
+// totals of a block are exact, so no turn of the loop divides. Four lanes each sum every fourth word, so that the machine adds four words
+// at a time.
 ghost use mathlib.Core.Path.{_≡_};
 ghost use Prim.Native.Nat.{_+_, _*_, _%_, _^_, _≤_, _<_};
 ghost use lib.ListN.{length};
@@ -55,37 +56,41 @@ pub struct Passed {
     pub second: u64,
 }
 
-// Passes all the bytes but the last few, fewer than eight. Lane 0 starts at the first sum, so that it counts in each running total.
+// Passes all the bytes but the last few, fewer than eight, four words a turn. The second sum counts a word once for itself and once for
+// each word after it. After k more turns a lane has counted its word k + 1 times, where lane 0's word is to count 4 * k + 4 times, and
+// that of each next lane once less: hence the four times, and what is taken off. Lane 0 starts at the first sum, which counts in every
+// running total.
 fn lanes(bytes: &[u8], first: u64, second: u64) -> Passed
     requires { ⌜ (length (now bytes) ≤ 16777216) × (first < 65536) × (second < 65536) ⌝ }
     ensures { λ r. ⌜ Sums (now (bytes .entry)) first second (r .at) (r .first) (r .second) ⌝ }
     ensures { λ r. ⌜ (r .at % 8 ≡ 0) × (length (now (bytes .entry)) < r .at + 8) ⌝ }
 {
     let n = bytes.len();
-    let mut a0: u64 = first;
-    let mut a1: u64 = 0;
-    let mut a2: u64 = 0;
-    let mut a3: u64 = 0;
-    let mut b0: u64 = 0;
-    let mut b1: u64 = 0;
-    let mut b2: u64 = 0;
-    let mut b3: u64 = 0;
+    let mut first0: u64 = first;
+    let mut first1: u64 = 0;
+    let mut first2: u64 = 0;
+    let mut first3: u64 = 0;
+    let mut second0: u64 = 0;
+    let mut second1: u64 = 0;
+    let mut second2: u64 = 0;
+    let mut second3: u64 = 0;
     let mut i: usize = 0;
     while i + 8 <= n {
-        a0 += word(bytes, i);
-        a1 += word(bytes, i + 2);
-        a2 += word(bytes, i + 4);
-        a3 += word(bytes, i + 6);
-        b0 += a0;
-        b1 += a1;
-        b2 += a2;
-        b3 += a3;
+        first0 += word(bytes, i);
+        first1 += word(bytes, i + 2);
+        first2 += word(bytes, i + 4);
+        first3 += word(bytes, i + 6);
+        second0 += first0;
+        second1 += first1;
+        second2 += first2;
+        second3 += first3;
         i += 8;
     }
     Passed {
         at: i,
-        first: a0 + a1 + a2 + a3,
-        second: second + 4 * (b0 + b1 + b2 + b3) - (a1 + 2 * a2 + 3 * a3),
+        first: first0 + first1 + first2 + first3,
+        second: second + 4 * (second0 + second1 + second2 + second3)
+            - (first1 + 2 * first2 + 3 * first3),
     }
 }
 
@@ -95,21 +100,21 @@ fn last_block(bytes: &[u8], first: u64, second: u64) -> u64
     ensures { λ r. ⌜ r ≡ ordered (firstTotal first (now (bytes .entry))) (secondTotal first second (now (bytes .entry))) ⌝ }
 {
     let n = bytes.len();
-    let p = lanes(bytes, first, second);
-    let mut a: u64 = p.first;
-    let mut b: u64 = p.second;
-    let mut i: usize = p.at;
-    while i + 2 <= n {
-        a += word(bytes, i);
-        b += a;
-        i += 2;
+    let passed = lanes(bytes, first, second);
+    let mut first_total: u64 = passed.first;
+    let mut second_total: u64 = passed.second;
+    let mut at: usize = passed.at;
+    while at + 2 <= n {
+        first_total += word(bytes, at);
+        second_total += first_total;
+        at += 2;
     }
-    if i < n {
-        a += wide(bytes[i]);
-        b += a;
-        return finish(a, b);
+    if at < n {
+        first_total += wide(bytes[at]);
+        second_total += first_total;
+        return finish(first_total, second_total);
     }
-    finish(a, b)
+    finish(first_total, second_total)
 }
 
 // The checksum of at most 16,777,216 bytes.
@@ -118,4 +123,23 @@ pub fn fletcher32(bytes: &[u8]) -> u64
     ensures { λ r. ⌜ (r ≡ checksum (now (bytes .entry))) × (r < 2 ^ 32) ⌝ }
 {
     last_block(bytes, 0, 0)
+}
+
+// The checksum of any number of bytes. A longer run goes block by block: between two blocks the totals are folded, which keeps their
+// remainders and keeps zero zero. A block has an even number of bytes, so that no word lies in two of them.
+pub fn fletcher32_any(bytes: &[u8]) -> u64
+    ensures { λ r. ⌜ (r ≡ checksum (now (bytes .entry))) × (r < 2 ^ 32) ⌝ }
+{
+    let n = bytes.len();
+    let mut first: u64 = 0;
+    let mut second: u64 = 0;
+    let mut at: usize = 0;
+    while n - at > 16777216 {
+        let end = at + 16777216;
+        let passed = lanes(&bytes[at..end], first, second);
+        first = fold(passed.first);
+        second = fold(passed.second);
+        at = end;
+    }
+    last_block(&bytes[at..], first, second)
 }

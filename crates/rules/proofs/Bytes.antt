@@ -8,7 +8,7 @@ use native.Mathlib.Nat.{zero-add, add-zero, suc-add, add-suc, add-assoc, pow-suc
 use native.Mathlib.Omega.{arith}
 use lib.Dec.{lit<, eqb}
 use lib.ListN.{length, take, drop, set, getD, length-append, length-take, length-drop, take-append-drop}
-use lib.Seq.{length-take-le, take-length, take-at, drop-at, drop-drop, take-take, take-nil, take-add, take-suc, drop-cons, drop-append-add, take-append-le, take-append-seam, getD-take, getD-drop, getD-at, sets, sets-eq}
+use lib.Seq.{length-take-le, take-length, drop-length, take-at, drop-at, drop-drop, take-take, take-nil, take-add, take-suc, drop-cons, drop-append-add, take-append-le, take-append-seam, getD-take, getD-drop, getD-at, sets, sets-eq}
 use borrow.Author.Tests.{eq-eqb, eqb-true}
 use Rattle.rules.specs.Bytes.{part, valueOf, numberAt, numberBytes, laid, tabulate, same}
 
@@ -88,6 +88,9 @@ laid-nothing xs at = rw (append-nil, add-zero) (take-append-drop at xs)
 pub laid-front : (xs ys : List ℕ) → laid xs 0 ys ≡ ys ++ drop (length ys) xs
 unfolding laid
 laid-front xs ys = rw zero-add
+
+pub laid-whole : (xs ys : List ℕ) → length ys ≡ length xs → laid xs 0 ys ≡ ys
+laid-whole xs ys e = laid-front xs ys ∙ rw (e, drop-length) (append-nil ys)
 
 module _ (xs : List ℕ) (at : ℕ) (ys : List ℕ) (fits : at + length ys ≤ length xs) where
   head : length (take at xs ++ ys) ≡ at + length ys

@@ -241,6 +241,6 @@ unfolding
     pageAllowed summed sumStands sumsStand flagsOf headerFront headerBytes settingWith settingOf wholeBytes locationBytes entryBytes indexBytes entriesAt recordBytes recordAt recordOf timeRight textRight
     placeOf revisionByte sessionByte pagesFrom pagesIn
     created locked firstCopy touched laidOnPage writtenPages written touching put putAll mergedIndex mergedCount committed
-    lengthWrong headerWrong headerSumWrong originalWrong  wholeWrong revisionUnknown entriesRight recordLies recordFields recordWrong  recordSumWrong pageSumWrong pagesWrong readOutside writeOutside notNewest pagesFit sessionWrong sizeBelowParent tooMany noRoom textsWrong creationWrong full writeTooFar
+    lengthWrong headerWrong headerSumWrong originalWrong wholeWrong revisionUnknown entriesRight recordLies recordFields recordWrong recordSumWrong pageSumWrong pagesWrong readOutside writeOutside notNewest pagesFit sessionWrong sizeBelowParent tooMany noRoom textsWrong creationWrong full writeTooFar
     row _then_ headerRows historyRows bothRows recordRows sessionRows asked createRows create readRows readBytes read openRows openForWriting writeRows write commitRows commit
 examples-hold = refl

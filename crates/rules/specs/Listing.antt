@@ -2,8 +2,9 @@
 use Prim.Native.Nat.{ℕ, zero, suc, _+_, _-_, _/_, _%_}
 use mathlib.Core.Bool.{Bool, true, false, cond, _||_}
 use mathlib.Core.List.{List, [], _∷_, _++_}
-use lib.Dec.{ltb, eqb}
+use lib.Dec.{leb, ltb}
 use lib.ListN.{length, take}
+use Rattle.rules.specs.Bytes.{laid}
 use Rattle.rules.specs.Layout.{settingOf, recordOf, timeOf, nameOf}
 use Rattle.rules.specs.Rows.{lengthWrong, headerWrong, headerSumWrong, wholeWrong}
 use Rattle.rules.specs.Calls.{row, _then_, accepted, recordRows}
@@ -105,3 +106,14 @@ listText history =
     let s = settingOf history in
     let number = listRows history in
     accepted number (settingLine s ++ recordLines history s 1 (s .count)) (refusedWord ++ decimal number ++ newline)
+
+-- What is left in a buffer that is lent for the text: the text from its start on, where there is room for all of it, else nothing new.
+-- The answer is the text's length either way.
+pub record Listed : Type 0 where
+  pub length : ℕ
+  pub bytes : List ℕ
+
+unfoldable pub list : List ℕ → List ℕ → Listed
+list history out =
+    let text = listText history in
+    record { length = length text; bytes = cond (leb (length text) (length out)) (laid out 0 text) out }

@@ -9,6 +9,7 @@ ghost use Rattle.rules.specs.Calls.{historyRows, bothRows};
 ghost use Rattle.whole.specs.Sound.{Sound};
 
 const SIGNATURE: [u8; 4] = *b"OWHR";
+
 const VERSION: [u8; 4] = [1, 0, 0, 0];
 
 // Row 5. The address and the size may be any numbers, so each sum waits until its parts are known to be small.

@@ -1,40 +1,37 @@
 use mathlib.Core.Path.{_≡_}
-use Prim.Native.Nat.{_≤_, _+_, _*_, _-_, _%_, _^_}
+use Prim.Native.Nat.{ℕ, _≤_, _+_, _*_, _-_, _%_, _^_}
 use borrow.Author.Needs.{needs}
 use Rattle.checksum.specs.Passing.{Sofar}
 use Rattle.checksum.proofs.Laws.{lanes-start, lanes-turn}
 use Rattle.checksum.proofs.lanes.Statement.{statement}
 use Rattle.checksum.proofs.lanes.Tie as tie
 
+-- No lane's sum leaves 64 bits, and what the end takes off is there.
+record Bounds (n i a0 a1 a2 a3 b0 b1 b2 b3 : ℕ) : Type 0 where
+  within : i ≤ n
+  turns : i % 8 ≡ 0
+  small0 : 8 * a0 ≤ 65535 * (i + 8)
+  small1 : 8 * a1 ≤ 65535 * i
+  small2 : 8 * a2 ≤ 65535 * i
+  small3 : 8 * a3 ≤ 65535 * i
+  great0 : 8 * b0 ≤ 2 ^ 37 * (i + 8)
+  great1 : 8 * b1 ≤ 2 ^ 37 * i
+  great2 : 8 * b2 ≤ 2 ^ 37 * i
+  great3 : 8 * b3 ≤ 2 ^ 37 * i
+  less1 : a1 ≤ b1
+  less2 : a2 ≤ b2
+  less3 : a3 ≤ b3
+
 abbrev Inv-loop : tie.InvT-loop
 Inv-loop bytes first second n a0₀ a1₀ a2₀ a3₀ b0₀ b1₀ b2₀ b3₀ i₀ a0 a1 a2 a3 b0 b1 b2 b3 i =
-    (i ≤ n)
-    × (i % 8 ≡ 0)
-    × (8 * a0 ≤ 65535 * (i + 8)) × (8 * a1 ≤ 65535 * i) × (8 * a2 ≤ 65535 * i) × (8 * a3 ≤ 65535 * i)
-    × (8 * b0 ≤ 2 ^ 37 * (i + 8)) × (8 * b1 ≤ 2 ^ 37 * i) × (8 * b2 ≤ 2 ^ 37 * i) × (8 * b3 ≤ 2 ^ 37 * i)
-    × (a1 ≤ b1) × (a2 ≤ b2) × (a3 ≤ b3)
+    Bounds n i a0 a1 a2 a3 b0 b1 b2 b3
     × Sofar bytes first second i (a0 + a1 + a2 + a3) (second + 4 * (b0 + b1 + b2 + b3) - (a1 + 2 * a2 + 3 * a3))
 
 abbrev μ-loop : tie.MeasureT-loop
 μ-loop bytes first second n a0₀ a1₀ a2₀ a3₀ b0₀ b1₀ b2₀ b3₀ i₀ a0 a1 a2 a3 b0 b1 b2 b3 i = n - i
 
 loop-holds : tie.Need-loop-holds Inv-loop μ-loop
-loop-holds c = (
-  search needs,
-  search needs,
-  search needs,
-  search needs,
-  search needs,
-  search needs,
-  search needs,
-  search needs,
-  search needs,
-  search needs,
-  search needs,
-  search needs,
-  search needs,
-  lanes-start _ _ _,
-)
+loop-holds c = (search needs, lanes-start _ _ _)
 
 add-loop : tie.Need-add-loop Inv-loop μ-loop
 add-loop c = search needs
@@ -42,8 +39,8 @@ add-loop c = search needs
 word-requires : tie.Need-word-requires Inv-loop μ-loop
 word-requires c κs = search needs
 
-add-a0 : tie.Need-add-a0 Inv-loop μ-loop
-add-a0 c = search needs
+add-first0 : tie.Need-add-first0 Inv-loop μ-loop
+add-first0 c = search needs
 
 add-word : tie.Need-add-word Inv-loop μ-loop
 add-word c = search needs
@@ -51,8 +48,8 @@ add-word c = search needs
 word-requires-2 : tie.Need-word-requires-2 Inv-loop μ-loop
 word-requires-2 c κs = search needs
 
-add-a1 : tie.Need-add-a1 Inv-loop μ-loop
-add-a1 c = search needs
+add-first1 : tie.Need-add-first1 Inv-loop μ-loop
+add-first1 c = search needs
 
 add-word-2 : tie.Need-add-word-2 Inv-loop μ-loop
 add-word-2 c = search needs
@@ -60,8 +57,8 @@ add-word-2 c = search needs
 word-requires-3 : tie.Need-word-requires-3 Inv-loop μ-loop
 word-requires-3 c κs = search needs
 
-add-a2 : tie.Need-add-a2 Inv-loop μ-loop
-add-a2 c = search needs
+add-first2 : tie.Need-add-first2 Inv-loop μ-loop
+add-first2 c = search needs
 
 add-word-3 : tie.Need-add-word-3 Inv-loop μ-loop
 add-word-3 c = search needs
@@ -69,20 +66,20 @@ add-word-3 c = search needs
 word-requires-4 : tie.Need-word-requires-4 Inv-loop μ-loop
 word-requires-4 c κs = search needs
 
-add-a3 : tie.Need-add-a3 Inv-loop μ-loop
-add-a3 c = search needs
+add-first3 : tie.Need-add-first3 Inv-loop μ-loop
+add-first3 c = search needs
 
-add-b0 : tie.Need-add-b0 Inv-loop μ-loop
-add-b0 c = search needs
+add-second0 : tie.Need-add-second0 Inv-loop μ-loop
+add-second0 c = search needs
 
-add-b1 : tie.Need-add-b1 Inv-loop μ-loop
-add-b1 c = search needs
+add-second1 : tie.Need-add-second1 Inv-loop μ-loop
+add-second1 c = search needs
 
-add-b2 : tie.Need-add-b2 Inv-loop μ-loop
-add-b2 c = search needs
+add-second2 : tie.Need-add-second2 Inv-loop μ-loop
+add-second2 c = search needs
 
-add-b3 : tie.Need-add-b3 Inv-loop μ-loop
-add-b3 c = search needs
+add-second3 : tie.Need-add-second3 Inv-loop μ-loop
+add-second3 c = search needs
 
 add-i : tie.Need-add-i Inv-loop μ-loop
 add-i c = search needs
@@ -94,19 +91,7 @@ loop-again : tie.Need-loop-again Inv-loop μ-loop
 loop-again c =
     let l = c .before .before .before .before .before .loop .inv in (
       search needs,
-      search needs,
-      search needs,
-      search needs,
-      search needs,
-      search needs,
-      search needs,
-      search needs,
-      search needs,
-      search needs,
-      search needs,
-      search needs,
-      search needs,
-      lanes-turn _ _ _ _ _ _ _ _ _ _ _ _ _ _ _ _ (l .13) (l .10) (l .11) (l .12) (search needs) (c .before .before .before .word .ensures .0)
+      lanes-turn _ _ _ _ _ _ _ _ _ _ _ _ _ _ _ _ (l .1) (l .0 .less1) (l .0 .less2) (l .0 .less3) (search needs) (c .before .before .before .word .ensures .0)
           (c .before .before .word2 .ensures .0) (c .before .word3 .ensures .0) (c .word4 .ensures .0),
     )
 
@@ -161,20 +146,20 @@ lanes-spec =
     loop-holds
     add-loop
     word-requires
-    add-a0
+    add-first0
     add-word
     word-requires-2
-    add-a1
+    add-first1
     add-word-2
     word-requires-3
-    add-a2
+    add-first2
     add-word-3
     word-requires-4
-    add-a3
-    add-b0
-    add-b1
-    add-b2
-    add-b3
+    add-first3
+    add-second0
+    add-second1
+    add-second2
+    add-second3
     add-i
     loop-less
     loop-again

@@ -25,14 +25,14 @@ add-loop c = search needs
 word-requires : tie.Need-word-requires Inv-loop μ-loop
 word-requires c κs = search needs
 
-add-a : tie.Need-add-a Inv-loop μ-loop
-add-a c = search needs
+add-first-total : tie.Need-add-first-total Inv-loop μ-loop
+add-first-total c = search needs
 
-add-b : tie.Need-add-b Inv-loop μ-loop
-add-b c = search needs
+add-second-total : tie.Need-add-second-total Inv-loop μ-loop
+add-second-total c = search needs
 
-add-i : tie.Need-add-i Inv-loop μ-loop
-add-i c = search needs
+add-at : tie.Need-add-at Inv-loop μ-loop
+add-at c = search needs
 
 loop-less : tie.Need-loop-less Inv-loop μ-loop
 loop-less c = search needs
@@ -55,11 +55,11 @@ shared-slice-read-wide c = search needs
 wide-requires : tie.Need-wide-requires Inv-loop μ-loop
 wide-requires c κs = search needs
 
-add-a-2 : tie.Need-add-a-2 Inv-loop μ-loop
-add-a-2 c = search needs
+add-first-total-2 : tie.Need-add-first-total-2 Inv-loop μ-loop
+add-first-total-2 c = search needs
 
-add-b-2 : tie.Need-add-b-2 Inv-loop μ-loop
-add-b-2 c = search needs
+add-second-total-2 : tie.Need-add-second-total-2 Inv-loop μ-loop
+add-second-total-2 c = search needs
 
 finish-requires : tie.Need-finish-requires Inv-loop μ-loop
 finish-requires c κs = search needs
@@ -87,15 +87,15 @@ last-block-spec =
     loop-holds
     add-loop
     word-requires
-    add-a
-    add-b
-    add-i
+    add-first-total
+    add-second-total
+    add-at
     loop-less
     loop-again
     shared-slice-read-wide
     wide-requires
-    add-a-2
-    add-b-2
+    add-first-total-2
+    add-second-total-2
     finish-requires
     returns
     finish-requires-2
