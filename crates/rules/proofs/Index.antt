@@ -2,7 +2,7 @@
 use mathlib.Core.Path.{_≡_, refl, sym, ap, _∙_}
 use mathlib.Core.Bool.{Bool, true, false, cond, _||_, true≢false, and-eq-true-iff, or-assoc, or-self-left, or-false, or-true}
 use mathlib.Core.Logic.{_⊎_, inl, inr, ⊎-elim}
-use mathlib.Core.List.{List, [], _∷_, _++_}
+use mathlib.Core.List.{List, [], _∷_, _++_, append-nil, append-assoc}
 use Prim.Native.Nat.{ℕ, zero, suc, _+_, _*_, _%_, _≤_, _<_}
 use native.Mathlib.Nat.{zero-add, add-zero, add-suc, suc-add}
 use native.Mathlib.Omega.{arith}
@@ -10,7 +10,7 @@ use lib.Dec.{ltb, eqb, leb·suc-suc}
 use lib.ListN.{length, take, getD, length-append, length-map, List·getD-map}
 use borrow.Author.Tests.{lt-ltb, le-ltb, eq-eqb, ne-eqb, eqb-true, eqb-false, ltb-true, ltb-false, leb-true, not-true}
 use Rattle.rules.specs.Bytes.{part, numberAt, laid}
-use Rattle.rules.specs.Layout.{emptyEnd, entryWidth, entryAt, entriesAt}
+use Rattle.rules.specs.Layout.{emptyEnd, entryWidth, entryBytes, indexBytes, entryAt, entriesAt}
 use Rattle.rules.specs.View.{placeOf, has, noEntry, logicals, hasPage, entryOf, ownPages}
 use Rattle.rules.specs.Session.{touching, put, putAll, ownEntry, mergedIndex, placeless, mergedCount}
 use Rattle.rules.specs.Rows.{entriesRight, pagesFit}
@@ -18,7 +18,7 @@ use Rattle.rules.specs.declared.Setting.{Setting}
 use Rattle.rules.specs.declared.Record.{Record}
 use Rattle.rules.specs.declared.Entry.{Entry}
 use Rattle.rules.specs.declared.State.{State}
-use Rattle.rules.proofs.Bytes.{part-part, take-laid}
+use Rattle.rules.proofs.Bytes.{part-part, length-numberBytes, take-laid}
 
 -- ---- entries in bytes
 
@@ -63,6 +63,22 @@ pub entries-laid : (xs : List ℕ) (to : ℕ) (ys : List ℕ) (at n : ℕ) → t
     → entriesAt (laid xs to ys) at n ≡ entriesAt xs at n
 entries-laid xs to ys at n fits h =
     sym (entries-take (laid xs to ys) to at n h) ∙ rw (take-laid xs to ys fits to (omega arith)) (entries-take xs to at n h)
+
+-- ---- entries as bytes
+
+pub length-entryBytes : (e : Entry) → length (entryBytes e) ≡ entryWidth
+unfolding entryBytes
+length-entryBytes e = simp (length-append, length-numberBytes)
+
+pub length-indexBytes : (index : List Entry) → length (indexBytes index) ≡ entryWidth * length index
+unfolding indexBytes
+length-indexBytes [] = refl
+length-indexBytes (e ∷ index) = simp (length-append, length-entryBytes) (omega (arith, length-indexBytes index))
+
+pub indexBytes-snoc : (index : List Entry) (e : Entry) → indexBytes (index ++ (e ∷ [])) ≡ indexBytes index ++ entryBytes e
+unfolding indexBytes
+indexBytes-snoc [] e = append-nil (entryBytes e)
+indexBytes-snoc (x ∷ index) e = rw (indexBytes-snoc index e, append-assoc)
 
 -- ---- places
 

@@ -1,0 +1,6 @@
+pub mod Next
+pub mod Stores
+pub mod Count
+pub mod Parted
+pub mod Turn
+pub mod Merging
