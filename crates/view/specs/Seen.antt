@@ -26,6 +26,14 @@ viewByte original history v own i =
     cond (has own (pageOf (v .page) i)) (byteAt history (v .end + placeOf (pageOf (v .page) i) own * v .page + i % v .page))
     (revisionByte original history (v .page) (indexIn history v) i)
 
+-- The bytes of the view, and of the original, counted from an offset.
+abbrev pub shown : List ℕ → List ℕ → View → List ℕ → ℕ → ℕ → ℕ
+shown original history v own from j = viewByte original history v own (from + j)
+
+abbrev pub originalByte : List ℕ → ℕ → ℕ → ℕ
+originalByte original from j = byteAt original (from + j)
+
+-- What has to hold for a view to be read.
 pub record Seen (history : List ℕ) (v : View) : Type 0 where
   pub short : length history ≤ 16777216
   pub least : 16 ≤ v .page

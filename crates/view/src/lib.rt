@@ -2,12 +2,12 @@
 // that has touched no page.
 ghost use mathlib.Core.Path.{_≡_};
 ghost use mathlib.Core.Bool.{_&&_};
-ghost use Prim.Native.Nat.{_+_, _*_, _%_, _≤_, _<_};
+ghost use Prim.Native.Nat.{_+_, _*_, _%_, _≤_, min};
 ghost use lib.ListN.{length, take};
-ghost use Rattle.rules.specs.Bytes.{laid, tabulate};
+ghost use Rattle.rules.specs.Bytes.{part, laid, tabulate};
 ghost use Rattle.rules.specs.View.{hasPage, entryOf, pagesFrom};
 ghost use Rattle.rules.specs.Rows.{pageSumWrong, pagesWrong};
-ghost use Rattle.view.specs.Seen.{Seen, indexIn, unownedWrong, viewByte};
+ghost use Rattle.view.specs.Seen.{Seen, indexIn, unownedWrong, originalByte, shown};
 
 // Where things stand: the page size, the index of a revision and how many entries it has, and behind an end the pages of a
 // session's own.
@@ -63,4 +63,96 @@ pub fn pages_wrong(history: &[u8], v: View, pages: &[u32], first: u64, m: usize)
         k += 1;
     }
     false
+}
+
+// Lays n bytes of the original from an offset on over a buffer, with zeros past the original's end.
+fn put_original(out: &mut [u8], to: usize, original: &[u8], from: usize, n: usize)
+    requires { ⌜ to + n ≤ length (now out) ⌝ }
+    ensures { λ _. ⌜ now (out .exit) ≡ laid (now (out .entry)) to (tabulate n (originalByte (now (original .entry)) from)) ⌝ }
+{
+    let length = original.len();
+    if length <= from {
+        numbers::put_zeros(out, to, n);
+        return;
+    }
+    let there = length - from;
+    if n <= there {
+        let end = from + n;
+        numbers::put_run(out, to, &original[from..end]);
+        return;
+    }
+    numbers::put_run(out, to, &original[from..length]);
+    numbers::put_zeros(out, to + there, n - there);
+}
+
+// Lays n bytes of the history over a buffer.
+fn put_stored(out: &mut [u8], to: usize, history: &[u8], from: usize, n: usize)
+    requires { ⌜ (to + n ≤ length (now out)) × (from + n ≤ length (now history)) ⌝ }
+    ensures { λ _. ⌜ now (out .exit) ≡ laid (now (out .entry)) to (part (now (history .entry)) from n) ⌝ }
+{
+    let end = from + n;
+    numbers::put_run(out, to, &history[from..end]);
+}
+
+// Lays the n bytes that the view shows from an offset on over a buffer; they lie in one page.
+fn put_in_page(
+    out: &mut [u8],
+    to: usize,
+    original: &[u8],
+    history: &[u8],
+    v: View,
+    pages: &[u32],
+    from: usize,
+    n: usize,
+)
+    requires { ⌜ (Seen (now history) v) × (v .own ≤ length (now pages)) × (to + n ≤ length (now out)) × (from % v .page + n ≤ v .page) ⌝ }
+    ensures { λ _. ⌜ now (out .exit) ≡ laid (now (out .entry)) to (tabulate n (shown (now (original .entry)) (now (history .entry)) v (take (v .own) (now (pages .entry))) from)) ⌝ }
+{
+    let page = v.page;
+    let own = v.own;
+    let inside = from % page;
+    let address = (from - inside) as u64;
+    let mine = index::own_place(pages, own, address);
+    if mine < own {
+        put_stored(out, to, history, v.end + mine * page + inside, n);
+        return;
+    }
+    let index = v.index;
+    let entries = v.entries;
+    let place = index::find(history, index, entries, address);
+    if place < entries {
+        let e = index::entry(history, index, place);
+        put_stored(out, to, history, e.physical as usize + inside, n);
+        return;
+    }
+    put_original(out, to, original, from, n);
+}
+
+fn least(a: usize, b: usize) -> usize
+    ensures { λ r. ⌜ r ≡ min a b ⌝ }
+{
+    if a < b { a } else { b }
+}
+
+// Fills a buffer with the bytes that the view shows from an offset on, page by page.
+pub fn put_view(
+    out: &mut [u8],
+    original: &[u8],
+    history: &[u8],
+    v: View,
+    pages: &[u32],
+    from: usize,
+)
+    requires { ⌜ (Seen (now history) v) × (v .own ≤ length (now pages)) × (from + length (now out) ≤ 16777216) ⌝ }
+    ensures { λ _. ⌜ now (out .exit) ≡ tabulate (length (now (out .entry))) (shown (now (original .entry)) (now (history .entry)) v (take (v .own) (now (pages .entry))) from) ⌝ }
+{
+    let page = v.page;
+    let n = out.len();
+    let mut done: usize = 0;
+    while done < n {
+        let at = from + done;
+        let some = least(page - at % page, n - done);
+        put_in_page(&mut *out, done, original, history, v, pages, at, some);
+        done += some;
+    }
 }

@@ -1,0 +1,164 @@
+-- The bytes of a view, page by page.
+use mathlib.Core.Path.{_≡_, refl, sym, ap, _∙_}
+use mathlib.Core.Bool.{Bool, true, false, cond}
+use mathlib.Core.List.{List, [], _∷_, _++_}
+use Prim.Native.Nat.{ℕ, zero, suc, _+_, _*_, _-_, _/_, _%_, _≤_, _<_, min}
+use native.Mathlib.Nat.{add-zero, zero-add, add-assoc, div-add-mod', mod-lt, add-mul-div-right, add-mul-mod-self-right, div-eq-of-lt, mod-eq-of-lt, mul-le-mul-right, suc-mul}
+use native.Mathlib.Omega.{arith}
+use lib.Dec.{ltb}
+use lib.ListN.{length, take, drop, getD, replicate, length-replicate, getD-replicate, List·getD-eq-default}
+use borrow.Author.Tests.{lt-ltb, le-ltb}
+use Rattle.rules.specs.Bytes.{byteAt, part, laid, tabulate}
+use Rattle.rules.specs.Layout.{entryAt, entriesAt}
+use Rattle.rules.specs.View.{placeOf, has, noEntry, logicals, hasPage, entryOf, pageOf, revisionByte}
+use Rattle.rules.specs.declared.Entry.{Entry}
+use Rattle.rules.proofs.Bytes.{laid-then, laid-more, laid-whole, laid-nothing, length-laid, length-part, length-tabulate, tabulate-append, tabulate-same, part-tabulate}
+use Rattle.rules.proofs.Index.{length-logicals-entries}
+use Rattle.view.specs.Seen.{Seen, indexIn, viewByte, shown, originalByte}
+use Rattle.view.specs.declared.View.{View}
+use Rattle.view.proofs.Pages.{page-there, entry-there, page-room}
+
+-- ---- The original
+
+zeros-behind : (m : ℕ) → _≡_ {A = List ℕ} (replicate (suc m) 0) (replicate m 0 ++ (0 ∷ []))
+zeros-behind zero = refl
+zeros-behind (suc m) = ap (λ (l : List ℕ). 0 ∷ l) (zeros-behind m)
+
+tabulate-zeros : (f : ℕ → ℕ) (n : ℕ) → ((j : ℕ) → j < n → f j ≡ 0) → _≡_ {A = List ℕ} (replicate n 0) (tabulate n f)
+unfolding tabulate
+tabulate-zeros f zero z = refl
+tabulate-zeros f (suc n) z = zeros-behind n ∙ rw (tabulate-zeros f n (λ j l. z j (omega arith)), z n (omega arith))
+
+module _ (o x0 : List ℕ) (to from n : ℕ) where
+  -- All past the original's end.
+  pub original-past : {x1 : List ℕ} → length o ≤ from → x1 ≡ laid x0 to (replicate n 0) → x1 ≡ laid x0 to (tabulate n (originalByte o from))
+  original-past h e = e ∙ ap (laid x0 to) (tabulate-zeros (originalByte o from) n (λ j l. List·getD-eq-default o 0 (omega arith)))
+
+  -- All of it there.
+  pub original-there : {x1 : List ℕ} → from + n ≤ length o → x1 ≡ laid x0 to (take (from + n - from) (drop from o)) → x1 ≡ laid x0 to (tabulate n (originalByte o from))
+  original-there h e = let q : from + n - from ≡ n = omega arith in e ∙ ap (laid x0 to) (rw q (part-tabulate o from n h))
+
+  -- Some there, and zeros behind.
+  pub original-ends : {x1 x2 : List ℕ} (m : ℕ) → m ≡ length o - from → m < n → from < length o → to + n ≤ length x0
+      → x1 ≡ laid x0 to (take (length o - from) (drop from o)) → x2 ≡ laid x1 (to + m) (replicate (n - m) 0)
+      → x2 ≡ laid x0 to (tabulate n (originalByte o from))
+  original-ends {x1} {x2} m em l k h e f =
+      let a : x1 ≡ laid x0 to (tabulate m (originalByte o from)) = e ∙ ap (laid x0 to) (rw (← em) (part-tabulate o from m (omega arith))) in
+      let b : x2 ≡ laid x1 (to + m) (tabulate (n - m) (λ j. originalByte o from (m + j))) =
+      f ∙ ap (laid x1 (to + m)) (tabulate-zeros (λ j. originalByte o from (m + j)) (n - m) (λ j q. List·getD-eq-default o 0 (omega arith))) in
+      let c : m + (n - m) ≡ n = omega arith in
+      laid-then x0 x1 x2 _ _ to (to + m) a b (rw (length-tabulate m (originalByte o from))) (omega arith)
+      ∙ ap (laid x0 to) (sym (tabulate-append m (n - m) (originalByte o from)) ∙ rw c)
+
+-- ---- One page
+
+-- Offsets in one page.
+page-of : (p from j : ℕ) → 0 < p → from % p + j < p → (pageOf p (from + j) ≡ pageOf p from) × ((from + j) % p ≡ from % p + j)
+page-of p from j h l =
+    let e : from + j ≡ from % p + j + from / p * p = omega (arith, div-add-mod' from p) in
+    rw e
+    (rw (add-mul-div-right (from % p + j) (from / p) h, div-eq-of-lt l, zero-add) refl, rw add-mul-mod-self-right (mod-eq-of-lt l))
+
+pub page-start : (p from : ℕ) → from - from % p ≡ pageOf p from
+page-start p from = omega (arith, div-add-mod' from p)
+
+module _ (o h : List ℕ) (v : View) (own : List ℕ) (from n : ℕ) (w : Seen h v) (fits : from % v .page + n ≤ v .page) where
+  -- In a page of the session's own.
+  pub shown-own : (mine : ℕ) → mine ≡ placeOf (from - from % v .page) own → mine < length own
+      → v .end + mine * v .page + from % v .page + n ≤ length h
+      → part h (v .end + mine * v .page + from % v .page) n ≡ tabulate n (shown o h v own from)
+  unfolding viewByte
+  shown-own mine e l room =
+      let a = sym (page-start (v .page) from) in
+      part-tabulate h _ n room
+      ∙ tabulate-same n _ _
+      (λ j q.
+      let z = page-of (v .page) from j (omega arith) (omega arith) in
+      rw (z .0, z .1, a, ← e, lt-ltb mine (length own) l) (ap (λ (i : ℕ). getD h i 0) (add-assoc (v .end + mine * v .page) (from % v .page) j)))
+
+  -- In no page of the session's own: what the revision shows.
+  unowned : (mine : ℕ) → mine ≡ placeOf (from - from % v .page) own → length own ≤ mine → (j : ℕ) → j < n
+      → shown o h v own from j ≡ cond (hasPage (indexIn h v) (pageOf (v .page) from)) (byteAt h (entryOf (indexIn h v) (pageOf (v .page) from) .physical + (from % v .page + j))) (byteAt o (from + j))
+  unfolding viewByte revisionByte
+  unowned mine e l j q =
+      let a = sym (page-start (v .page) from) in
+      let z = page-of (v .page) from j (omega arith) (omega arith) in
+      rw (z .0, z .1, a, ← e, le-ltb mine (length own) l)
+
+  -- In a page that the index has.
+  pub shown-stored : (mine place : ℕ) {e : Entry} → mine ≡ placeOf (from - from % v .page) own → length own ≤ mine
+      → place ≡ placeOf (from - from % v .page) (logicals (indexIn h v)) → place < v .entries → e ≡ entryAt h (v .index + 24 * place)
+      → e .physical + from % v .page + n ≤ length h
+      → part h (e .physical + from % v .page) n ≡ tabulate n (shown o h v own from)
+  shown-stored mine place {e} em lm ep lp q room =
+      let a = page-start (v .page) from in
+      let f : place ≡ placeOf (pageOf (v .page) from) (logicals (indexIn h v)) = rw a at ep in
+      let g : e ≡ entryOf (indexIn h v) (pageOf (v .page) from) = q ∙ entry-there h v (pageOf (v .page) from) f lp in
+      part-tabulate h _ n room
+      ∙ tabulate-same n _ _
+      (λ j k.
+      sym (unowned mine em lm j k ∙ rw (page-there h v (pageOf (v .page) from) f lp, ← g)
+      (ap (λ (i : ℕ). getD h i 0) (sym (add-assoc (e .physical) (from % v .page) j)))))
+
+  -- In no stored page.
+  pub shown-original : (mine place : ℕ) → mine ≡ placeOf (from - from % v .page) own → length own ≤ mine
+      → place ≡ placeOf (from - from % v .page) (logicals (indexIn h v)) → v .entries ≤ place
+      → tabulate n (originalByte o from) ≡ tabulate n (shown o h v own from)
+  shown-original mine place em lm ep lp =
+      let a = page-start (v .page) from in
+      let f : place ≡ placeOf (pageOf (v .page) from) (logicals (indexIn h v)) = rw a at ep in
+      tabulate-same n _ _
+      (λ j k.
+      sym (unowned mine em lm j k ∙ rw (← f, length-logicals-entries h (v .index) (v .entries), le-ltb place (v .entries) lp)))
+
+-- ---- All of a buffer
+
+-- The first `done` bytes of a buffer are those that the view shows.
+pub record ShownSoFar (f : ℕ → ℕ) (before now : List ℕ) (done : ℕ) : Type 0 where
+  pub within : done ≤ length before
+  pub bytes : now ≡ laid before 0 (tabulate done f)
+
+pub shown-start : (f : ℕ → ℕ) (before : List ℕ) → ShownSoFar f before before 0
+unfolding tabulate
+shown-start f before = record { within = omega arith; bytes = sym (laid-nothing before 0) }
+
+module _ {f : ℕ → ℕ} {before now : List ℕ} {done : ℕ} (l : ShownSoFar f before now done) where
+  fits-so : 0 + length (tabulate done f) ≤ length before
+  fits-so = rw (length-tabulate done f) (omega (arith, l .within))
+
+  pub shown-length : length now ≡ length before
+  shown-length = rw (l .bytes) (length-laid before 0 (tabulate done f) fits-so)
+
+  pub shown-turn : (some : ℕ) {more : List ℕ} → done + some ≤ length before → more ≡ laid now done (tabulate some (λ j. f (done + j)))
+      → ShownSoFar f before more (done + some)
+  shown-turn some {more} h e = record {
+    within = h;
+    bytes =
+        laid-then before now more (tabulate done f) (tabulate some (λ j. f (done + j))) 0 done (l .bytes) e (rw (length-tabulate done f) (zero-add done)) (omega arith)
+        ∙ ap (laid before 0) (sym (tabulate-append done some f));
+  }
+
+  pub shown-end : length before ≤ done → now ≡ tabulate (length before) f
+  shown-end h =
+      let q : done ≡ length before = omega (arith, l .within) in
+      l .bytes ∙ rw q (laid-whole before (tabulate (length before) f) (length-tabulate (length before) f))
+
+-- A page's part is not empty, and ends with the page.
+pub some-fits : (p at : ℕ) → 0 < p → (0 < p - at % p) × (at % p ≤ p)
+some-fits p at h = let l = mod-lt at h in (omega arith, omega arith)
+
+-- A part of a slice that is named by its ends.
+pub stored-run : (x0 h : List ℕ) (to from n : ℕ) {x1 : List ℕ} → x1 ≡ laid x0 to (take (from + n - from) (drop from h)) → x1 ≡ laid x0 to (part h from n)
+stored-run x0 h to from n e = let q : from + n - from ≡ n = omega arith in e ∙ rw q
+
+pub inside-less : (p from : ℕ) → from % p ≤ from
+inside-less p from = omega (arith, div-add-mod' from p)
+
+-- An own page lies in the history.
+pub own-room : {h : List ℕ} {v : View} → Seen h v → (mine : ℕ) → mine < v .own → v .end + mine * v .page + v .page ≤ length h
+own-room {h} {v} w mine l = let q : suc mine * v .page ≤ v .own * v .page = mul-le-mul-right (v .page) l in omega (arith, w .owned, suc-mul mine (v .page))
+
+-- The bytes from a further offset on.
+pub shown-further : (o h : List ℕ) (v : View) (own : List ℕ) (from done some : ℕ)
+    → tabulate some (shown o h v own (from + done)) ≡ tabulate some (λ j. shown o h v own from (done + j))
+shown-further o h v own from done some = tabulate-same some _ _ (λ j l. ap (viewByte o h v own) (add-assoc from done j))
