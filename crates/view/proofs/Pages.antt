@@ -2,17 +2,17 @@
 use mathlib.Core.Path.{_≡_, refl, sym, ap, _∙_}
 use mathlib.Core.Bool.{Bool, true, false, not, _&&_, _||_, and-assoc}
 use mathlib.Core.List.{List, [], _∷_}
-use Prim.Native.Nat.{ℕ, zero, suc, _+_, _*_, _-_, _≤_, _<_}
-use native.Mathlib.Nat.{add-zero, zero-mul, suc-mul, mul-le-mul-right}
+use Prim.Native.Nat.{ℕ, zero, suc, _+_, _*_, _-_, _/_, _%_, _≤_, _<_, max}
+use native.Mathlib.Nat.{add-zero, zero-mul, one-mul, suc-mul, add-mul, mul-le-mul-right, div-add-mod', le-div-iff-mul-le}
 use native.Mathlib.Numerals.{add-one}
 use native.Mathlib.Omega.{arith}
-use lib.Dec.{ltb, eqb}
+use lib.Dec.{leb, ltb, eqb}
 use lib.ListN.{length, take, drop, getD}
-use borrow.Author.Tests.{lt-ltb, le-ltb, eqb-true}
+use borrow.Author.Tests.{lt-ltb, le-ltb, leb-true, leb-false}
 use Rattle.rules.specs.Bytes.{part}
 use Rattle.rules.specs.Checksum.{checksum}
 use Rattle.rules.specs.Layout.{entryWidth, entryAt, entriesAt}
-use Rattle.rules.specs.View.{placeOf, has, noEntry, logicals, hasPage, entryOf, pagesFrom}
+use Rattle.rules.specs.View.{placeOf, has, noEntry, logicals, hasPage, entryOf, pagesFrom, pagesIn, pagesShared}
 use Rattle.rules.specs.Rows.{pageSumWrong, pagesWrong}
 use Rattle.rules.specs.declared.Entry.{Entry}
 use Rattle.rules.proofs.Index.{length-logicals-entries, entry-entries}
@@ -93,3 +93,42 @@ pub pages-end : {own h : List ℕ} {v : View} {first m address k : ℕ} → Page
     → false ≡ pagesWrong own h (v .page) (indexIn h v) (pagesFrom (v .page) first m)
 unfolding pagesWrong pagesFrom
 pages-end {own} {h} {v} {first} {m} {address} {k} l q = let e : m - k ≡ 0 = omega arith in sym (l .left ∙ rw e)
+
+-- ---- The pages of a range
+
+pub pages-none : (p at n : ℕ) → n ≡ 0 → 0 ≡ pagesIn p at n
+unfolding pagesIn
+pages-none p at n e = rw e
+
+pub pages-some : (p at n : ℕ) → (n ≡ 0 → ⊥) → (at + (n - 1)) / p - at / p + 1 ≡ pagesIn p at n
+unfolding pagesIn
+pages-some p at zero h = absurd (h refl)
+pages-some p at (suc n) h = let e : suc n - 1 ≡ n = omega arith in rw e
+
+-- The first page starts at or ahead of the range, and the last ends less than a page behind it.
+span : (a b p : ℕ) (t : Bool) → leb b a ≡ t → b * p + (a - b + 1) * p ≤ max (a * p + p) (b * p + p)
+span a b p true e =
+    let l = leb-true b a e in
+    let c : b + (a - b + 1) ≡ suc a = omega arith in
+    let d : b * p + (a - b + 1) * p ≡ a * p + p = sym (add-mul b (a - b + 1) p) ∙ rw (c, suc-mul) in
+    omega arith
+span a b p false e =
+    let l = leb-false b a e in
+    let c : a - b + 1 ≡ 1 = omega arith in
+    rw (c, one-mul) (omega arith)
+
+pub pages-end-near : (p at n : ℕ) → at / p * p + pagesIn p at n * p ≤ at + n + p
+unfolding pagesIn
+pages-end-near p at zero = rw zero-mul (omega (arith, div-add-mod' at p))
+pages-end-near p at (suc n) = omega (arith, span ((at + n) / p) (at / p) p (leb (at / p) ((at + n) / p)) refl, div-add-mod' (at + n) p, div-add-mod' at p)
+
+pub pages-order : (p at m : ℕ) → 0 < p → at / p ≤ (at + m) / p
+pages-order p at m h = le-div-iff-mul-le h .1 (omega (arith, div-add-mod' at p))
+
+pub range-room : (p at n : ℕ) {m : ℕ} → m ≡ pagesIn p at n → at + n ≤ 16777216 → p ≤ 4096 → at / p * p + m * p ≤ 33554432
+range-room p at n e l k = rw e (omega (arith, pages-end-near p at n))
+
+pub range-parts : (own h : List ℕ) (v : View) (at n : ℕ) {m : ℕ} {b : Bool} → m ≡ pagesIn (v .page) at n
+    → b ≡ pagesWrong own h (v .page) (indexIn h v) (pagesFrom (v .page) (at / v .page * v .page) m)
+    → b ≡ pagesWrong own h (v .page) (indexIn h v) (pagesShared (v .page) at n)
+range-parts own h v at n e f = f ∙ rw e

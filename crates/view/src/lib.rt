@@ -5,7 +5,7 @@ ghost use mathlib.Core.Bool.{_&&_};
 ghost use Prim.Native.Nat.{_+_, _*_, _%_, _≤_, min};
 ghost use lib.ListN.{length, take};
 ghost use Rattle.rules.specs.Bytes.{part, laid, tabulate};
-ghost use Rattle.rules.specs.View.{hasPage, entryOf, pagesFrom};
+ghost use Rattle.rules.specs.View.{hasPage, entryOf, pagesFrom, pagesIn, pagesShared};
 ghost use Rattle.rules.specs.Rows.{pageSumWrong, pagesWrong};
 ghost use Rattle.view.specs.Seen.{Seen, indexIn, unownedWrong, originalByte, shown};
 
@@ -49,7 +49,7 @@ fn unowned_wrong(history: &[u8], v: View, pages: &[u32], address: u64) -> bool
 }
 
 // The same of any of m pages from an address on.
-pub fn pages_wrong(history: &[u8], v: View, pages: &[u32], first: u64, m: usize) -> bool
+fn pages_wrong(history: &[u8], v: View, pages: &[u32], first: u64, m: usize) -> bool
     requires { ⌜ (Seen (now history) v) × (v .own ≤ length (now pages)) × (first + m * v .page ≤ 33554432) ⌝ }
     ensures { λ r. ⌜ r ≡ pagesWrong (take (v .own) (now (pages .entry))) (now (history .entry)) (v .page) (indexIn (now (history .entry)) v) (pagesFrom (v .page) first m) ⌝ }
 {
@@ -155,4 +155,25 @@ pub fn put_view(
         put_in_page(&mut *out, done, original, history, v, pages, at, some);
         done += some;
     }
+}
+
+// How many pages n bytes from an offset share a byte with.
+fn pages_in(page: usize, at: usize, n: usize) -> usize
+    requires { ⌜ (16 ≤ page) × (at + n ≤ 16777216) ⌝ }
+    ensures { λ r. ⌜ r ≡ pagesIn page at n ⌝ }
+{
+    if n == 0 {
+        return 0;
+    }
+    (at + (n - 1)) / page - at / page + 1
+}
+
+// Whether any indexed page that n bytes from an offset share a byte with is damaged, but for the session's own.
+pub fn range_wrong(history: &[u8], v: View, pages: &[u32], at: usize, n: usize) -> bool
+    requires { ⌜ (Seen (now history) v) × (v .own ≤ length (now pages)) × (at + n ≤ 16777216) ⌝ }
+    ensures { λ r. ⌜ r ≡ pagesWrong (take (v .own) (now (pages .entry))) (now (history .entry)) (v .page) (indexIn (now (history .entry)) v) (pagesShared (v .page) at n) ⌝ }
+{
+    let page = v.page;
+    let m = pages_in(page, at, n);
+    pages_wrong(history, v, pages, (at / page * page) as u64, m)
 }
