@@ -67,3 +67,10 @@ both false b e = absurd (false≢true e)
 pub left-alone {ℓ} : {A : Type ℓ} (n : ℕ) (new old : A) → (n ≡ 0 → ⊥) → old ≡ accepted n new old
 left-alone zero new old h = absurd (h refl)
 left-alone (suc n) new old h = refl
+
+-- ---- Rows taken together
+
+pub then-assoc : (a b c : ℕ) → (a then b) then c ≡ a then (b then c)
+unfolding _then_
+then-assoc zero b c = refl
+then-assoc (suc a) b c = refl
