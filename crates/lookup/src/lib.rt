@@ -1,0 +1,122 @@
+// Looking up a page: it is handed back as a part of the original or of the history, and not as a copy.
+use rules::Found;
+use view::View;
+ghost use mathlib.Core.Path.{_≡_};
+ghost use mathlib.Core.Bool.{cond};
+ghost use Prim.Native.Nat.{_+_, _-_, _≤_, min};
+ghost use lib.Dec.{eqb};
+ghost use Rattle.rules.specs.View.{placeOf, logicals};
+ghost use Rattle.rules.specs.Rows.{lookUpOutside};
+ghost use Rattle.rules.specs.Calls.{lookUp};
+ghost use Rattle.view.specs.Seen.{Seen, indexIn};
+ghost use Rattle.lookup.specs.Lies.{Lies, refusedWith, foundIn, pageAt};
+
+// Row 10 of a look-up.
+fn look_up_outside(page: u64, size: u64, address: u64) -> bool
+    requires { ⌜ 16 ≤ page ⌝ }
+    ensures { λ r. ⌜ r ≡ lookUpOutside page size address ⌝ }
+{
+    (size <= address) | !(address % page == 0)
+}
+
+fn found_length(page: u64, size: u64, address: u64) -> u64
+    requires { ⌜ address ≤ size ⌝ }
+    ensures { λ r. ⌜ r ≡ min page (size - address) ⌝ }
+{
+    if size - address < page {
+        return size - address;
+    }
+    page
+}
+
+// The place of a page in the index of a view; the count of its entries where it is not there.
+fn place_in(history: &[u8], v: View, address: u64) -> usize
+    requires { ⌜ Seen (now history) v ⌝ }
+    ensures { λ r. ⌜ (r ≡ placeOf address (logicals (indexIn (now (history .entry)) v))) × (r ≤ v .entries) ⌝ }
+{
+    let index = v.index;
+    let entries = v.entries;
+    index::find(history, index, entries, address)
+}
+
+// Where the page lies, once rows 1 to 8 have passed: rows 10, 20 and 9, and then the place.
+fn found_in(original: &[u8], history: &[u8], v: View, size: u64, address: u64) -> Found
+    requires { ⌜ (Seen (now history) v) × (size ≤ 16777216) ⌝ }
+    ensures { λ r. ⌜ r ≡ foundIn (now (original .entry)) (now (history .entry)) v size address ⌝ }
+    ensures { λ r. ⌜ Lies (now (original .entry)) (now (history .entry)) r ⌝ }
+{
+    let page = v.page as u64;
+    if look_up_outside(page, size, address) {
+        return refused(10);
+    }
+    let length = found_length(page, size, address);
+    let place = place_in(history, v, address);
+    if v.entries <= place {
+        if (original.len() as u64) < address + length {
+            return refused(20);
+        }
+        return Found {
+            number: 0,
+            source: 0,
+            offset: address,
+            length,
+        };
+    }
+    if view::page_wrong(history, v, address) {
+        return refused(9);
+    }
+    let index = v.index;
+    let e = index::entry(history, index, place);
+    Found {
+        number: 0,
+        source: 1,
+        offset: e.physical,
+        length,
+    }
+}
+
+fn refused(number: u64) -> Found
+    ensures { λ r. ⌜ r ≡ refusedWith number ⌝ }
+{
+    Found {
+        number,
+        source: 0,
+        offset: 0,
+        length: 0,
+    }
+}
+
+// Look-up 1 to 8, 10, 20, 9: the number, the source (0 the original, 1 the history), and where in it the page lies.
+pub fn look_up_place(original: &[u8], history: &[u8], revision: u64, address: u64) -> Found
+    ensures { λ r. ⌜ r ≡ lookUp (now (original .entry)) (now (history .entry)) revision address ⌝ }
+    ensures { λ r. ⌜ Lies (now (original .entry)) (now (history .entry)) r ⌝ }
+{
+    let number = reading::revision_rows(original, history, revision);
+    if number != 0 {
+        return refused(number);
+    }
+    let s = whole::setting(history);
+    let r = records::record_of(history, s, revisions::asked(s, revision));
+    found_in(
+        original,
+        history,
+        reading::view_of(s, r),
+        r.logical,
+        address,
+    )
+}
+
+// The page itself, as a part of one of the two slices; the empty part at the original's start where it is refused.
+pub fn look_up<'a>(original: &'a [u8], history: &'a [u8], revision: u64, address: u64) -> &'a [u8]
+    ensures holds { λ r. ⌜ now r ≡ pageAt (now (original .entry)) (now (history .entry)) (lookUp (now (original .entry)) (now (history .entry)) revision address) ⌝ }
+    ensures lies { λ r. ⌜ (r .ptr .0 ≡ cond (eqb (lookUp (now (original .entry)) (now (history .entry)) revision address .source) 1) (history .entry .ptr .0) (original .entry .ptr .0))
+        × (r .ptr .1 ≡ cond (eqb (lookUp (now (original .entry)) (now (history .entry)) revision address .source) 1) (history .entry .ptr .1) (original .entry .ptr .1) + lookUp (now (original .entry)) (now (history .entry)) revision address .offset) ⌝ }
+{
+    let f = look_up_place(original, history, revision, address);
+    let start = f.offset as usize;
+    let end = start + f.length as usize;
+    if f.source == 1 {
+        return &history[start..end];
+    }
+    &original[start..end]
+}
