@@ -1,0 +1,5 @@
+pub mod Digits
+pub mod Lines
+pub mod Passing
+pub mod Text
+pub mod Determined

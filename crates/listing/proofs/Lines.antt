@@ -1,0 +1,109 @@
+-- Lines, written piece after piece.
+use mathlib.Core.Path.{_≡_, refl, sym, _∙_}
+use mathlib.Core.List.{List, _++_, append-assoc}
+use Prim.Native.Nat.{ℕ, _+_, _*_, _-_, _≤_}
+use native.Mathlib.Omega.{arith}
+use lib.ListN.{length, take, drop, length-append}
+use lib.Seq.{take-take}
+use Rattle.rules.specs.Bytes.{part, laid}
+use Rattle.rules.specs.Listing.{decimal, yesNo, newline, pagesWord, originalWord, revisionsWord, lockWord, branchWord, settingLine, space, shownName, recordLine}
+use Rattle.rules.specs.Layout.{timeOf}
+use Rattle.rules.specs.declared.Setting.{Setting}
+use Rattle.rules.specs.declared.Record.{Record}
+use Rattle.rules.proofs.Bytes.{laid-then, length-part}
+use Rattle.listing.specs.Written.{Written, Shown}
+
+-- A run of bytes that was laid is a text that was written,
+pub written-run : {before run after : List ℕ} {at : ℕ} → after ≡ laid before at run → Written before at run after (at + length run)
+written-run e = record { bytes = e; next = refl }
+
+-- and one text directly behind another is a longer one.
+pub written-then : {x0 x1 x2 ys zs : List ℕ} {at next end : ℕ} → Written x0 at ys x1 next → Written x1 next zs x2 end → next ≤ length x0
+    → Written x0 at (ys ++ zs) x2 end
+written-then {x0} {x1} {x2} {ys} {zs} {at} {next} a b h = record {
+  bytes = laid-then x0 x1 x2 ys zs at next (a .bytes) (b .bytes) (sym (a .next)) h;
+  next = rw length-append (omega (arith, a .next, b .next));
+}
+
+-- The same where the second starts with a word.
+pub written-more : {x0 x1 x2 ys : List ℕ} {at next end : ℕ} (word zs : List ℕ) → Written x0 at ys x1 next → Written x1 next (word ++ zs) x2 end → next ≤ length x0
+    → Written x0 at (ys ++ word ++ zs) x2 end
+written-more {x0} {x1} {x2} {ys} word zs a b h = rw (append-assoc ys word zs) (written-then a b h)
+
+written-same : {x0 x1 ys zs : List ℕ} {at end : ℕ} → Written x0 at ys x1 end → ys ≡ zs → Written x0 at zs x1 end
+written-same w e = rw (← e) w
+
+-- ---- The history's line
+
+pub setting-long : (s : Setting) → length (settingLine s)
+    ≡ 42 + length (decimal (s .page)) + length (decimal (s .original)) + length (decimal (s .count)) + length (yesNo (s .lock)) + length (yesNo (s .branching))
+unfolding settingLine
+setting-long s = simp length-append (omega arith)
+
+-- Six pieces, one behind the other.
+pub setting-written : {x0 x1 x2 x3 x4 x5 x6 : List ℕ} {at a1 a2 a3 a4 a5 : ℕ} (s : Setting) → at + length (settingLine s) ≤ length x0
+    → Written x0 at (pagesWord ++ decimal (s .page)) x1 a1
+    → Written x1 a1 (originalWord ++ decimal (s .original)) x2 a2
+    → Written x2 a2 (revisionsWord ++ decimal (s .count)) x3 a3
+    → Written x3 a3 (lockWord ++ yesNo (s .lock)) x4 a4
+    → Written x4 a4 (branchWord ++ yesNo (s .branching)) x5 a5
+    → x6 ≡ laid x5 a5 newline
+    → Written x0 at (settingLine s) x6 (a5 + 1)
+unfolding settingLine
+setting-written s h w1 w2 w3 w4 w5 e =
+    let l = setting-long s in
+    written-then
+    (written-more _ _
+    (written-more _ _ (written-more _ _ (written-more _ _ w1 w2 (omega arith)) w3 (omega arith)) w4 (omega arith))
+    w5 (omega arith))
+    (written-run e) (omega arith)
+
+-- ---- A record's line
+
+-- The part of so many bytes from an address, as the code takes it, from one address to another.
+abbrev pub between : List ℕ → ℕ → ℕ → List ℕ
+between h from n = take (from + n - from) (drop from h)
+
+between-part : (h : List ℕ) (from n : ℕ) → between h from n ≡ part h from n
+between-part h from n = let l : from + n - from ≡ n = omega arith in rw l
+
+time-between : (h : List ℕ) (r : Record) → timeOf h r ≡ between h (r .address + 24) 16
+time-between h r = sym (between-part h (r .address + 24) 16)
+
+-- The name without its closing zero.
+name-between : (h : List ℕ) (r : Record) → shownName h r ≡ between h (r .address + 72 + 24 * r .entries) (r .name - 1)
+name-between h r =
+    take-take (r .name - 1) (r .name) _ (omega arith) ∙ sym (between-part h (r .address + 72 + 24 * r .entries) (r .name - 1))
+
+module _ {h : List ℕ} {r : Record} (s : Shown h r) where
+  pub time-long : length (between h (r .address + 24) 16) ≡ 16
+  time-long = rw (between-part h (r .address + 24) 16) (length-part h (r .address + 24) 16 (omega (arith, s .inside)))
+
+  pub name-long : length (between h (r .address + 72 + 24 * r .entries) (r .name - 1)) + 1 ≡ r .name
+  name-long =
+      let l = length-part h (r .address + 72 + 24 * r .entries) (r .name - 1) (omega (arith, s .inside)) in
+      rw (between-part h (r .address + 72 + 24 * r .entries) (r .name - 1)) (omega (arith, s .named))
+
+  pub record-long : length (recordLine h r)
+      ≡ 21 + r .name + length (decimal (r .revision)) + length (decimal (r .parent)) + length (decimal (r .logical)) + length (decimal (r .entries))
+  unfolding recordLine
+  record-long = rw (time-between h r, name-between h r) (simp length-append (omega (arith, time-long, name-long)))
+
+-- Five pieces, one behind the other.
+pub record-written : {x0 x1 x2 x3 x4 x5 : List ℕ} {at a1 a2 a3 a4 : ℕ} {h : List ℕ} {r : Record}
+    → (at + length (recordLine h r) ≤ length x0) × Shown h r
+    → Written x0 at (decimal (r .revision) ++ space ++ decimal (r .parent)) x1 a1
+    → Written x1 a1 (space ++ between h (r .address + 24) 16) x2 a2
+    → Written x2 a2 (space ++ decimal (r .logical) ++ space ++ decimal (r .entries)) x3 a3
+    → Written x3 a3 (space ++ between h (r .address + 72 + 24 * r .entries) (r .name - 1)) x4 a4
+    → x5 ≡ laid x4 a4 newline
+    → Written x0 at (recordLine h r) x5 (a4 + 1)
+unfolding recordLine
+record-written {h = h} {r = r} s w1 w2 w3 w4 e =
+    let l = record-long (s .1) in
+    let t = time-long (s .1) in
+    let n = name-long (s .1) in
+    let n1 = simp length-append at (w1 .next) in
+    let n3 = simp length-append at (w3 .next) in
+    let w = written-then (written-then (written-then w1 w2 (omega arith)) w3 (omega arith)) w4 (omega arith) in
+    rw (time-between h r, name-between h r) (written-same (written-then w (written-run e) (omega arith)) (simp append-assoc))

@@ -1,0 +1,115 @@
+use lib.ListN.{length-append}
+use native.Mathlib.Omega.{arith}
+use Rattle.listing.proofs.Lines.{time-long, name-long, record-long, record-written}
+use borrow.Author.Needs.{needs}
+use Rattle.listing.proofs.put_record_line.Statement.{statement}
+use Rattle.listing.proofs.put_record_line.Tie as tie
+
+add-time : tie.Need-add-time
+add-time c = search needs
+
+add-time-end : tie.Need-add-time-end
+add-time-end c = search needs
+
+add-name : tie.Need-add-name
+add-name c = search needs
+
+mul-name : tie.Need-mul-name
+mul-name c = search needs
+
+add-name-2 : tie.Need-add-name-2
+add-name-2 c = search needs
+
+sub-name-end : tie.Need-sub-name-end
+sub-name-end c = search needs
+
+add-name-end : tie.Need-add-name-end
+add-name-end c = search needs
+
+slice-aggregate-put-numbers : tie.Need-slice-aggregate-put-numbers
+slice-aggregate-put-numbers c = search needs
+
+put-numbers-requires : tie.Need-put-numbers-requires
+put-numbers-requires c κs = omega (arith, record-long (c .before .before .before .before .pre .1))
+
+slice-aggregate-put-text : tie.Need-slice-aggregate-put-text
+slice-aggregate-put-text c = search needs
+
+sub-put-text : tie.Need-sub-put-text
+sub-put-text c = search needs
+
+part-put-text-start : tie.Need-part-put-text-start
+part-put-text-start c = search needs
+
+part-put-text-end : tie.Need-part-put-text-end
+part-put-text-end c = search needs
+
+put-text-requires : tie.Need-put-text-requires
+put-text-requires c κs = omega (arith, record-long (c .before .before .before .before .before .before .before .before .before .before .pre .1), time-long (c .before .before .before .before .before .before .before .before .before .before .pre .1), simp length-append at (c .before .before .before .before .before .put-numbers .ensures .next))
+
+slice-aggregate-put-numbers-2 : tie.Need-slice-aggregate-put-numbers-2
+slice-aggregate-put-numbers-2 c = search needs
+
+put-numbers-requires-2 : tie.Need-put-numbers-requires-2
+put-numbers-requires-2 c κs = omega (arith, record-long (c .before .before .before .before .before .before .before .before .before .before .before .before .before .before .before .pre .1), time-long (c .before .before .before .before .before .before .before .before .before .before .before .before .before .before .before .pre .1), simp length-append at (c .before .before .before .before .before .before .before .before .before .before .put-numbers .ensures .next), c .before .before .before .before .put-text .ensures .next)
+
+slice-aggregate-put-text-2 : tie.Need-slice-aggregate-put-text-2
+slice-aggregate-put-text-2 c = search needs
+
+sub-put-text-2 : tie.Need-sub-put-text-2
+sub-put-text-2 c = search needs
+
+part-put-text-start-2 : tie.Need-part-put-text-start-2
+part-put-text-start-2 c = search needs
+
+part-put-text-end-2 : tie.Need-part-put-text-end-2
+part-put-text-end-2 c = search needs
+
+put-text-requires-2 : tie.Need-put-text-requires-2
+put-text-requires-2 c κs = omega (arith, record-long (c .before .before .before .before .before .before .before .before .before .before .before .before .before .before .before .before .before .before .before .before .before .pre .1), time-long (c .before .before .before .before .before .before .before .before .before .before .before .before .before .before .before .before .before .before .before .before .before .pre .1), name-long (c .before .before .before .before .before .before .before .before .before .before .before .before .before .before .before .before .before .before .before .before .before .pre .1), simp length-append at (c .before .before .before .before .before .before .before .before .before .before .before .before .before .before .before .before .put-numbers .ensures .next), c .before .before .before .before .before .before .before .before .before .before .put-text .ensures .next, simp length-append at (c .before .before .before .before .before .put-numbers2 .ensures .next))
+
+slice-aggregate-put-run : tie.Need-slice-aggregate-put-run
+slice-aggregate-put-run c = search needs
+
+put-run-requires : tie.Need-put-run-requires
+put-run-requires c κs = omega (arith, record-long (c .before .before .before .before .before .before .before .before .before .before .before .before .before .before .before .before .before .before .before .before .before .before .before .before .before .before .pre .1), time-long (c .before .before .before .before .before .before .before .before .before .before .before .before .before .before .before .before .before .before .before .before .before .before .before .before .before .before .pre .1), name-long (c .before .before .before .before .before .before .before .before .before .before .before .before .before .before .before .before .before .before .before .before .before .before .before .before .before .before .pre .1), simp length-append at (c .before .before .before .before .before .before .before .before .before .before .before .before .before .before .before .before .before .before .before .before .before .put-numbers .ensures .next), c .before .before .before .before .before .before .before .before .before .before .before .before .before .before .before .put-text .ensures .next, simp length-append at (c .before .before .before .before .before .before .before .before .before .before .put-numbers2 .ensures .next), c .before .before .before .before .put-text2 .ensures .next)
+
+add-result : tie.Need-add-result
+add-result c = omega (arith, c .before .before .before .before .before .before .before .before .before .before .before .before .before .before .before .before .before .before .before .before .before .before .before .before .before .before .before .before .before, record-long (c .before .before .before .before .before .before .before .before .before .before .before .before .before .before .before .before .before .before .before .before .before .before .before .before .before .before .before .before .before .pre .1), time-long (c .before .before .before .before .before .before .before .before .before .before .before .before .before .before .before .before .before .before .before .before .before .before .before .before .before .before .before .before .before .pre .1), name-long (c .before .before .before .before .before .before .before .before .before .before .before .before .before .before .before .before .before .before .before .before .before .before .before .before .before .before .before .before .before .pre .1), simp length-append at (c .before .before .before .before .before .before .before .before .before .before .before .before .before .before .before .before .before .before .before .before .before .before .before .before .put-numbers .ensures .next), c .before .before .before .before .before .before .before .before .before .before .before .before .before .before .before .before .before .before .put-text .ensures .next, simp length-append at (c .before .before .before .before .before .before .before .before .before .before .before .before .before .put-numbers2 .ensures .next), c .before .before .before .before .before .before .before .put-text2 .ensures .next)
+
+same-length : tie.Need-same-length
+same-length c = search needs
+
+returns : tie.Need-returns
+returns c = record-written (c .before .before .before .before .before .before .before .before .before .before .before .before .before .before .before .before .before .before .before .before .before .before .before .before .before .before .before .before .before .pre) (c .before .before .before .before .before .before .before .before .before .before .before .before .before .before .before .before .before .before .before .before .before .before .before .before .put-numbers .ensures) (c .before .before .before .before .before .before .before .before .before .before .before .before .before .before .before .before .before .before .put-text .ensures) (c .before .before .before .before .before .before .before .before .before .before .before .before .before .put-numbers2 .ensures) (c .before .before .before .before .before .before .before .put-text2 .ensures) (c .before .before .put-run .ensures)
+
+pub put-record-line-spec : {M : Type 1} → statement M
+put-record-line-spec =
+    tie.close
+    (tie.spec
+    add-time
+    add-time-end
+    add-name
+    mul-name
+    add-name-2
+    sub-name-end
+    add-name-end
+    slice-aggregate-put-numbers
+    put-numbers-requires
+    slice-aggregate-put-text
+    sub-put-text
+    part-put-text-start
+    part-put-text-end
+    put-text-requires
+    slice-aggregate-put-numbers-2
+    put-numbers-requires-2
+    slice-aggregate-put-text-2
+    sub-put-text-2
+    part-put-text-start-2
+    part-put-text-end-2
+    put-text-requires-2
+    slice-aggregate-put-run
+    put-run-requires
+    add-result
+    same-length
+    returns)

@@ -1,0 +1,3 @@
+pub mod Creation
+pub mod Locking
+pub mod Determined
