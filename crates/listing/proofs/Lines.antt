@@ -76,10 +76,10 @@ name-between h r =
     take-take (r .name - 1) (r .name) _ (omega arith) ∙ sym (between-part h (r .address + 72 + 24 * r .entries) (r .name - 1))
 
 module _ {h : List ℕ} {r : Record} (s : Shown h r) where
-  pub time-long : length (between h (r .address + 24) 16) ≡ 16
+  time-long : length (between h (r .address + 24) 16) ≡ 16
   time-long = rw (between-part h (r .address + 24) 16) (length-part h (r .address + 24) 16 (omega (arith, s .inside)))
 
-  pub name-long : length (between h (r .address + 72 + 24 * r .entries) (r .name - 1)) + 1 ≡ r .name
+  name-long : length (between h (r .address + 72 + 24 * r .entries) (r .name - 1)) + 1 ≡ r .name
   name-long =
       let l = length-part h (r .address + 72 + 24 * r .entries) (r .name - 1) (omega (arith, s .inside)) in
       rw (between-part h (r .address + 72 + 24 * r .entries) (r .name - 1)) (omega (arith, s .named))
@@ -89,21 +89,30 @@ module _ {h : List ℕ} {r : Record} (s : Shown h r) where
   unfolding recordLine
   record-long = rw (time-between h r, name-between h r) (simp length-append (omega (arith, time-long, name-long)))
 
--- Five pieces, one behind the other.
-pub record-written : {x0 x1 x2 x3 x4 x5 : List ℕ} {at a1 a2 a3 a4 : ℕ} {h : List ℕ} {r : Record}
-    → (at + length (recordLine h r) ≤ length x0) × Shown h r
-    → Written x0 at (decimal (r .revision) ++ space ++ decimal (r .parent)) x1 a1
-    → Written x1 a1 (space ++ between h (r .address + 24) 16) x2 a2
-    → Written x2 a2 (space ++ decimal (r .logical) ++ space ++ decimal (r .entries)) x3 a3
-    → Written x3 a3 (space ++ between h (r .address + 72 + 24 * r .entries) (r .name - 1)) x4 a4
-    → x5 ≡ laid x4 a4 newline
-    → Written x0 at (recordLine h r) x5 (a4 + 1)
-unfolding recordLine
-record-written {h = h} {r = r} s w1 w2 w3 w4 e =
-    let l = record-long (s .1) in
-    let t = time-long (s .1) in
-    let n = name-long (s .1) in
-    let n1 = simp length-append at (w1 .next) in
-    let n3 = simp length-append at (w3 .next) in
-    let w = written-then (written-then (written-then w1 w2 (omega arith)) w3 (omega arith)) w4 (omega arith) in
-    rw (time-between h r, name-between h r) (written-same (written-then w (written-run e) (omega arith)) (simp append-assoc))
+-- Five pieces, one behind the other: behind each there is room for the next.
+module _ {x0 x1 : List ℕ} {at a1 : ℕ} {h : List ℕ} {r : Record} (s : (at + length (recordLine h r) ≤ length x0) × Shown h r)
+    (w1 : Written x0 at (decimal (r .revision) ++ space ++ decimal (r .parent)) x1 a1) where
+  pub room-time : a1 + 1 + length (between h (r .address + 24) 16) ≤ length x0
+  room-time = omega (arith, record-long (s .1), time-long (s .1), simp length-append at (w1 .next))
+
+  module _ {x2 : List ℕ} {a2 : ℕ} (w2 : Written x1 a1 (space ++ between h (r .address + 24) 16) x2 a2) where
+    pub room-numbers : a2 + 1 + length (decimal (r .logical)) + 1 + length (decimal (r .entries)) ≤ length x0
+    room-numbers = omega (arith, record-long (s .1), time-long (s .1), simp length-append at (w1 .next))
+
+    module _ {x3 : List ℕ} {a3 : ℕ} (w3 : Written x2 a2 (space ++ decimal (r .logical) ++ space ++ decimal (r .entries)) x3 a3) where
+      pub room-name : a3 + 1 + length (between h (r .address + 72 + 24 * r .entries) (r .name - 1)) + 1 ≤ length x0
+      room-name =
+          omega (arith, record-long (s .1), time-long (s .1), name-long (s .1), simp length-append at (w1 .next), simp length-append at (w3 .next))
+
+      module _ {x4 : List ℕ} {a4 : ℕ} (w4 : Written x3 a3 (space ++ between h (r .address + 72 + 24 * r .entries) (r .name - 1)) x4 a4) where
+        pub room-newline : a4 + 1 ≤ length x0
+        room-newline = omega (arith, room-name)
+
+        pub record-written : {x5 : List ℕ} → x5 ≡ laid x4 a4 newline → Written x0 at (recordLine h r) x5 (a4 + 1)
+        unfolding recordLine
+        record-written e =
+            let a = room-time in
+            let b = room-numbers in
+            let c = room-name in
+            let w = written-then (written-then (written-then w1 w2 (omega arith)) w3 (omega arith)) w4 (omega arith) in
+            rw (time-between h r, name-between h r) (written-same (written-then w (written-run e) (omega arith)) (simp append-assoc))

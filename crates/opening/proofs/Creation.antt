@@ -57,5 +57,5 @@ module _ (h : List ℕ) (original page : ℕ) (branching : Bool) where
       → s ≡ createdSetting original page branching → h1 ≡ laid h 40 (wholeBytes 0 []) → h2 ≡ laid h1 0 (headerBytes s)
       → record { number = 0; bytes = h2 } ≡ create h original page branching
   unfolding create created
-  create-accepted {s = s} e l q p1 p2 =
+  create-accepted e l q p1 p2 =
       rw (← e, p2, p1, q) (ap (λ (b : List ℕ). record { number = 0; bytes = b }) (laid-ahead h (headerBytes (createdSetting original page branching)) (wholeBytes 0 []) 40 (header-long _) (omega (arith, empty-long))))

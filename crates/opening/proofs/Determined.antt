@@ -6,13 +6,13 @@ use Prim.Native.Nat.{ℕ}
 use Rattle.rules.specs.Calls.{Reply, Outcome, create, openForWriting, release}
 use Rattle.rules.specs.declared.State.{State}
 
-create-determined : (history : List ℕ) (original page : ℕ) (branching : Bool) (a b : Reply) → a ≡ create history original page branching
+pub create-determined : (history : List ℕ) (original page : ℕ) (branching : Bool) (a b : Reply) → a ≡ create history original page branching
     → b ≡ create history original page branching → a ≡ b
 create-determined history original page branching a b p q = p ∙ sym q
 
-open-determined : (original history : List ℕ) (revision : ℕ) (a b : Outcome) → a ≡ openForWriting original history revision
+pub open-determined : (original history : List ℕ) (revision : ℕ) (a b : Outcome) → a ≡ openForWriting original history revision
     → b ≡ openForWriting original history revision → a ≡ b
 open-determined original history revision a b p q = p ∙ sym q
 
-release-determined : (st : State) (history : List ℕ) (a b : Outcome) → a ≡ release st history → b ≡ release st history → a ≡ b
+pub release-determined : (st : State) (history : List ℕ) (a b : Outcome) → a ≡ release st history → b ≡ release st history → a ≡ b
 release-determined st history a b p q = p ∙ sym q

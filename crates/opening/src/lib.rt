@@ -56,7 +56,8 @@ fn put_empty(history: &mut [u8])
 
 // Creates a history in 60 bytes. The header is stored last: until it stands, there is no history.
 pub fn create(history: &mut [u8], original: u64, page: u64, branching: bool) -> u64
-    ensures { λ r. ⌜ _≡_ {A = Reply} (record { number = r; bytes = now (history .exit) }) (create (now (history .entry)) original page branching) ⌝ }
+    ensures { λ r. ⌜ _≡_ {A = Reply} (record { number = r; bytes = now (history .exit) })
+        (create (now (history .entry)) original page branching) ⌝ }
 {
     if header::length_wrong(60, history.len()) {
         return 1;
@@ -75,9 +76,10 @@ pub fn create(history: &mut [u8], original: u64, page: u64, branching: bool) -> 
 fn not_newest(s: Setting, k: u64) -> bool
     ensures { λ r. ⌜ r ≡ notNewest s k ⌝ }
 {
-    !s.branching & !(k == s.count)
+    !s.branching & (k != s.count)
 }
 
+// Rows 1 to 6, 11, 12, 18, 7, 8.
 fn open_rows(original: &[u8], history: &[u8], revision: u64) -> u64
     ensures { λ r. ⌜ r ≡ openRows (now (original .entry)) (now (history .entry)) revision ⌝ }
 {
@@ -102,6 +104,7 @@ fn open_rows(original: &[u8], history: &[u8], revision: u64) -> u64
     records::record_rows(history, s, k)
 }
 
+// The setting with its lock set or clear.
 fn with_lock(s: Setting, lock: bool) -> Setting
     ensures { λ r. ⌜ r ≡ withLock lock s ⌝ }
 {
@@ -127,7 +130,8 @@ fn opened(s: Setting, parent: u64, logical: u64) -> State
 
 // Opens a revision for writing. The header, with the lock set, is all that is stored.
 pub fn open_for_writing(original: &[u8], history: &mut [u8], revision: u64) -> Answered
-    ensures { λ r. ⌜ _≡_ {A = Outcome} (record { number = r .number; session = r .session; bytes = now (history .exit) }) (openForWriting (now (original .entry)) (now (history .entry)) revision) ⌝ }
+    ensures { λ r. ⌜ _≡_ {A = Outcome} (record { number = r .number; session = r .session; bytes = now (history .exit) })
+        (openForWriting (now (original .entry)) (now (history .entry)) revision) ⌝ }
 {
     let refusal = open_rows(original, history, revision);
     if refusal != 0 {
@@ -162,7 +166,8 @@ fn unlock(history: &mut [u8])
 
 // Clears the lock and ends the session, whichever it is.
 pub fn release(st: State, history: &mut [u8]) -> Answered
-    ensures { λ r. ⌜ _≡_ {A = Outcome} (record { number = r .number; session = r .session; bytes = now (history .exit) }) (release st (now (history .entry))) ⌝ }
+    ensures { λ r. ⌜ _≡_ {A = Outcome} (record { number = r .number; session = r .session; bytes = now (history .exit) })
+        (release st (now (history .entry))) ⌝ }
 {
     let refusal = header::header_rows(history);
     if refusal != 0 {

@@ -11,9 +11,10 @@ const NEWEST: u64 = 18446744073709551615;
 pub fn revision_unknown(s: Setting, revision: u64) -> bool
     ensures { λ r. ⌜ r ≡ revisionUnknown s revision ⌝ }
 {
-    (s.count < revision) & !(revision == NEWEST)
+    (s.count < revision) & (revision != NEWEST)
 }
 
+// The revision that a number means.
 pub fn asked(s: Setting, revision: u64) -> u64
     ensures { λ r. ⌜ r ≡ asked s revision ⌝ }
 {

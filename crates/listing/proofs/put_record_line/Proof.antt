@@ -1,6 +1,5 @@
-use lib.ListN.{length-append}
 use native.Mathlib.Omega.{arith}
-use Rattle.listing.proofs.Lines.{time-long, name-long, record-long, record-written}
+use Rattle.listing.proofs.Lines.{record-long, room-time, room-numbers, room-name, room-newline, record-written}
 use borrow.Author.Needs.{needs}
 use Rattle.listing.proofs.put_record_line.Statement.{statement}
 use Rattle.listing.proofs.put_record_line.Tie as tie
@@ -45,13 +44,13 @@ part-put-text-end : tie.Need-part-put-text-end
 part-put-text-end c = search needs
 
 put-text-requires : tie.Need-put-text-requires
-put-text-requires c κs = omega (arith, record-long (c .before .before .before .before .before .before .before .before .before .before .pre .1), time-long (c .before .before .before .before .before .before .before .before .before .before .pre .1), simp length-append at (c .before .before .before .before .before .put-numbers .ensures .next))
+put-text-requires c κs = omega (arith, room-time (c .before .before .before .before .before .before .before .before .before .before .pre) (c .before .before .before .before .before .put-numbers .ensures))
 
 slice-aggregate-put-numbers-2 : tie.Need-slice-aggregate-put-numbers-2
 slice-aggregate-put-numbers-2 c = search needs
 
 put-numbers-requires-2 : tie.Need-put-numbers-requires-2
-put-numbers-requires-2 c κs = omega (arith, record-long (c .before .before .before .before .before .before .before .before .before .before .before .before .before .before .before .pre .1), time-long (c .before .before .before .before .before .before .before .before .before .before .before .before .before .before .before .pre .1), simp length-append at (c .before .before .before .before .before .before .before .before .before .before .put-numbers .ensures .next), c .before .before .before .before .put-text .ensures .next)
+put-numbers-requires-2 c κs = omega (arith, room-numbers (c .before .before .before .before .before .before .before .before .before .before .before .before .before .before .before .pre) (c .before .before .before .before .before .before .before .before .before .before .put-numbers .ensures) (c .before .before .before .before .put-text .ensures))
 
 slice-aggregate-put-text-2 : tie.Need-slice-aggregate-put-text-2
 slice-aggregate-put-text-2 c = search needs
@@ -66,16 +65,16 @@ part-put-text-end-2 : tie.Need-part-put-text-end-2
 part-put-text-end-2 c = search needs
 
 put-text-requires-2 : tie.Need-put-text-requires-2
-put-text-requires-2 c κs = omega (arith, record-long (c .before .before .before .before .before .before .before .before .before .before .before .before .before .before .before .before .before .before .before .before .before .pre .1), time-long (c .before .before .before .before .before .before .before .before .before .before .before .before .before .before .before .before .before .before .before .before .before .pre .1), name-long (c .before .before .before .before .before .before .before .before .before .before .before .before .before .before .before .before .before .before .before .before .before .pre .1), simp length-append at (c .before .before .before .before .before .before .before .before .before .before .before .before .before .before .before .before .put-numbers .ensures .next), c .before .before .before .before .before .before .before .before .before .before .put-text .ensures .next, simp length-append at (c .before .before .before .before .before .put-numbers2 .ensures .next))
+put-text-requires-2 c κs = omega (arith, room-name (c .before .before .before .before .before .before .before .before .before .before .before .before .before .before .before .before .before .before .before .before .before .pre) (c .before .before .before .before .before .before .before .before .before .before .before .before .before .before .before .before .put-numbers .ensures) (c .before .before .before .before .before .before .before .before .before .before .put-text .ensures) (c .before .before .before .before .before .put-numbers2 .ensures))
 
 slice-aggregate-put-run : tie.Need-slice-aggregate-put-run
 slice-aggregate-put-run c = search needs
 
 put-run-requires : tie.Need-put-run-requires
-put-run-requires c κs = omega (arith, record-long (c .before .before .before .before .before .before .before .before .before .before .before .before .before .before .before .before .before .before .before .before .before .before .before .before .before .before .pre .1), time-long (c .before .before .before .before .before .before .before .before .before .before .before .before .before .before .before .before .before .before .before .before .before .before .before .before .before .before .pre .1), name-long (c .before .before .before .before .before .before .before .before .before .before .before .before .before .before .before .before .before .before .before .before .before .before .before .before .before .before .pre .1), simp length-append at (c .before .before .before .before .before .before .before .before .before .before .before .before .before .before .before .before .before .before .before .before .before .put-numbers .ensures .next), c .before .before .before .before .before .before .before .before .before .before .before .before .before .before .before .put-text .ensures .next, simp length-append at (c .before .before .before .before .before .before .before .before .before .before .put-numbers2 .ensures .next), c .before .before .before .before .put-text2 .ensures .next)
+put-run-requires c κs = omega (arith, room-newline (c .before .before .before .before .before .before .before .before .before .before .before .before .before .before .before .before .before .before .before .before .before .before .before .before .before .before .pre) (c .before .before .before .before .before .before .before .before .before .before .before .before .before .before .before .before .before .before .before .before .before .put-numbers .ensures) (c .before .before .before .before .before .before .before .before .before .before .before .before .before .before .before .put-text .ensures) (c .before .before .before .before .before .before .before .before .before .before .put-numbers2 .ensures) (c .before .before .before .before .put-text2 .ensures))
 
 add-result : tie.Need-add-result
-add-result c = omega (arith, c .before .before .before .before .before .before .before .before .before .before .before .before .before .before .before .before .before .before .before .before .before .before .before .before .before .before .before .before .before, record-long (c .before .before .before .before .before .before .before .before .before .before .before .before .before .before .before .before .before .before .before .before .before .before .before .before .before .before .before .before .before .pre .1), time-long (c .before .before .before .before .before .before .before .before .before .before .before .before .before .before .before .before .before .before .before .before .before .before .before .before .before .before .before .before .before .pre .1), name-long (c .before .before .before .before .before .before .before .before .before .before .before .before .before .before .before .before .before .before .before .before .before .before .before .before .before .before .before .before .before .pre .1), simp length-append at (c .before .before .before .before .before .before .before .before .before .before .before .before .before .before .before .before .before .before .before .before .before .before .before .before .put-numbers .ensures .next), c .before .before .before .before .before .before .before .before .before .before .before .before .before .before .before .before .before .before .put-text .ensures .next, simp length-append at (c .before .before .before .before .before .before .before .before .before .before .before .before .before .put-numbers2 .ensures .next), c .before .before .before .before .before .before .before .put-text2 .ensures .next)
+add-result c = omega (arith, c .before .before .before .before .before .before .before .before .before .before .before .before .before .before .before .before .before .before .before .before .before .before .before .before .before .before .before .before .before, room-newline (c .before .before .before .before .before .before .before .before .before .before .before .before .before .before .before .before .before .before .before .before .before .before .before .before .before .before .before .before .before .pre) (c .before .before .before .before .before .before .before .before .before .before .before .before .before .before .before .before .before .before .before .before .before .before .before .before .put-numbers .ensures) (c .before .before .before .before .before .before .before .before .before .before .before .before .before .before .before .before .before .before .put-text .ensures) (c .before .before .before .before .before .before .before .before .before .before .before .before .before .put-numbers2 .ensures) (c .before .before .before .before .before .before .before .put-text2 .ensures))
 
 same-length : tie.Need-same-length
 same-length c = search needs

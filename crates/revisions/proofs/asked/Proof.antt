@@ -1,6 +1,5 @@
 use borrow.Author.Tests.{eq-eqb, ne-eqb}
 use Rattle.rules.specs.Calls.{asked}
-use borrow.Author.Needs.{needs}
 use Rattle.revisions.proofs.asked.Statement.{statement}
 use Rattle.revisions.proofs.asked.Tie as tie
 

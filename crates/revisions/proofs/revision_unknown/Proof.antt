@@ -1,6 +1,5 @@
 use mathlib.Core.Path.{refl}
 use Rattle.rules.specs.Rows.{revisionUnknown}
-use borrow.Author.Needs.{needs}
 use Rattle.revisions.proofs.revision_unknown.Statement.{statement}
 use Rattle.revisions.proofs.revision_unknown.Tie as tie
 
