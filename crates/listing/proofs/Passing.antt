@@ -1,6 +1,6 @@
 -- The list program's rows, as the code goes through them.
 use mathlib.Core.Path.{_≡_, refl, sym, ap, _∙_}
-use mathlib.Core.Bool.{Bool, true, false, _&&_, _||_, false≢true}
+use mathlib.Core.Bool.{Bool, true, false, _&&_, _||_, or-true, or-false, false≢true}
 use mathlib.Core.List.{List}
 use Prim.Native.Nat.{ℕ, zero, suc, _+_, _-_, _≤_, _<_}
 use native.Mathlib.Numerals.{add-one}
@@ -14,26 +14,13 @@ use Rattle.rules.specs.Calls.{_then_, headerRows, historyRows, recordRows}
 use Rattle.rules.specs.Listing.{recordsRows, listRows}
 use Rattle.rules.specs.declared.Setting.{Setting}
 use Rattle.rules.specs.declared.Record.{Record}
-use Rattle.rules.proofs.Rows.{row-holds, rows-hold, rows-past, row-clear, then-clear, both}
+use Rattle.rules.proofs.Rows.{then-assoc, row-holds, rows-hold, rows-past, row-clear, then-clear, both}
 use Rattle.whole.specs.Sound.{Sound}
 use Rattle.whole.proofs.Sound.{history-sound}
 use Rattle.records.proofs.Fields.{lies-facts, rows-are}
 use Rattle.listing.specs.Written.{Shown, Passed}
 
 -- ---- The first rows
-
-then-assoc : (a b c : ℕ) → ((a then b) then c) ≡ (a then (b then c))
-unfolding _then_
-then-assoc zero b c = refl
-then-assoc (suc a) b c = refl
-
-or-true : (a : Bool) → a || true ≡ true
-or-true true = refl
-or-true false = refl
-
-or-false : (a : Bool) → a || false ≡ a
-or-false true = refl
-or-false false = refl
 
 -- Longer input counts as 1.
 pub list-over : (h : List ℕ) → 65536 < length h → 1 ≡ listRows h

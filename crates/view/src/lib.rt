@@ -66,7 +66,7 @@ fn pages_wrong(history: &[u8], v: View, pages: &[u32], first: u64, m: usize) -> 
 }
 
 // Lays n bytes of the original from an offset on over a buffer, with zeros past the original's end.
-fn put_original(out: &mut [u8], to: usize, original: &[u8], from: usize, n: usize)
+pub fn put_original(out: &mut [u8], to: usize, original: &[u8], from: usize, n: usize)
     requires { ⌜ to + n ≤ length (now out) ⌝ }
     ensures { λ _. ⌜ now (out .exit) ≡ laid (now (out .entry)) to (tabulate n (originalByte (now (original .entry)) from)) ⌝ }
 {
