@@ -6,23 +6,22 @@ use Prim.Native.Nat.{ℕ, zero, suc, _+_, _*_, _-_, _≤_, _<_}
 use native.Mathlib.Nat.{add-zero}
 use native.Mathlib.Omega.{arith}
 use lib.Dec.{ltb}
-use lib.ListN.{length, take, getD}
+use lib.ListN.{length, take}
 use borrow.Author.Tests.{lt-ltb, le-ltb, ltb-true, ltb-false}
 use Rattle.rules.specs.Bytes.{tabulate}
 use Rattle.rules.specs.Layout.{settingOf, recordOf, indexOf, entriesAt}
-use Rattle.rules.specs.View.{placeOf, noEntry, logicals, revisionByte, pagesShared}
+use Rattle.rules.specs.View.{placeOf, revisionByte, pagesShared}
 use Rattle.rules.specs.Rows.{revisionUnknown, readOutside, pagesWrong}
 use Rattle.rules.specs.Calls.{row, _then_, accepted, bothRows, recordRows, asked, readRows, readBytes}
 use Rattle.rules.specs.declared.Setting.{Setting}
 use Rattle.rules.specs.declared.Record.{Record}
 use Rattle.rules.proofs.Bytes.{tabulate-same}
 use Rattle.rules.proofs.Rows.{then-assoc, then-clear, row-clear, rows-hold, rows-past, row-holds, row-past, last-holds, last-past}
-use Rattle.rules.proofs.Index.{EntryRight, entry-right, length-entries}
-use Rattle.index.specs.Rising.{Rising, entries-rising}
 use Rattle.whole.specs.Sound.{Sound}
 use Rattle.whole.proofs.Sound.{both-sound}
 use Rattle.records.specs.Lying.{SoundRecord, indexAt}
 use Rattle.records.proofs.Fields.{index-there}
+use Rattle.records.proofs.Stands.{index-rising, page-ahead}
 use Rattle.revisions.proofs.Known.{asked-stands}
 use Rattle.view.specs.Seen.{Seen, indexIn, viewByte, shown}
 use Rattle.view.specs.declared.View.{View}
@@ -80,12 +79,6 @@ module _ (o h : List ℕ) (revision : ℕ) where
 
 -- ---- The view of a sound record
 
-seen-stored : (h : List ℕ) (s : Setting) (r : Record) → Sound h s → SoundRecord h s r → (k : ℕ) → k < r .entries
-    → getD (entriesAt h (indexAt r) (r .entries)) k noEntry .physical + s .page ≤ length h
-seen-stored h s r w q k l =
-    let e = entry-right s r 0 (indexOf h r) (q .right) k (rw (length-entries h (r .address + 72) (r .entries)) l) in
-    rw (index-there h r) (omega (arith, e .ahead, q .below, w .inside))
-
 pub view-seen : (h : List ℕ) (s : Setting) (r : Record) {v : View} → Sound h s → SoundRecord h s r → v ≡ viewOf s r → Seen h v
 unfolding viewOf
 view-seen h s r w q e =
@@ -96,8 +89,8 @@ view-seen h s r w q e =
       most = w .most;
       few = q .few;
       room = omega (arith, q .inside, w .inside);
-      rising = rw (index-there h r) (entries-rising s r 0 (indexOf h r) (q .right));
-      stored = seen-stored h s r w q;
+      rising = index-rising h s r q;
+      stored = λ k l. omega (arith, page-ahead h s r q k l, q .below, w .inside);
       owned = omega arith;
     })
 

@@ -1,4 +1,5 @@
-// The plain data that document 01 speaks of. What it means stands in specs/, one file a section of the paper.
+// The plain data that document 01 speaks of. What it means stands in specs/, one file a section of the paper. Those marked for C
+// are handed over by value as they stand.
 
 // What a history says of itself: its page size, the original's length, the whole history's address and size, how many
 // revisions stand, whether the write lock is set and whether branching is allowed. It is read once and handed on.
@@ -35,6 +36,7 @@ pub struct Entry {
 
 // A session's state: the committed end and the count that it was opened at, its parent, its logical size, and the n pages
 // that it touched, in the order of first touch. Page i of them lies i page sizes after the end. The slots past n are unused.
+#[repr(C)]
 pub struct State {
     pub end: u64,
     pub count: u64,
@@ -45,6 +47,7 @@ pub struct State {
 }
 
 // A page as a part of the original (source 0) or of the history (source 1). All zeros but the number where it is refused.
+#[repr(C)]
 pub struct Found {
     pub number: u64,
     pub source: u64,
@@ -53,6 +56,7 @@ pub struct Found {
 }
 
 // The first fault of a history, with its revision and its entry; 0 where none is named.
+#[repr(C)]
 pub struct Checked {
     pub number: u64,
     pub revision: u64,
@@ -60,6 +64,7 @@ pub struct Checked {
 }
 
 // Where a revision's record stands in the history: of length 0 for revision 0 and where it is refused.
+#[repr(C)]
 pub struct Browsed {
     pub number: u64,
     pub offset: u64,
@@ -67,6 +72,7 @@ pub struct Browsed {
 }
 
 // One step of browsing: kind 0 an entry, 1 the end, 7 refused. All zeros but the kind unless it is an entry.
+#[repr(C)]
 pub struct Step {
     pub kind: u64,
     pub logical: u64,

@@ -14,6 +14,7 @@ ghost use Rattle.whole.specs.Sound.{Sound};
 const LIMIT: u64 = 16777216;
 
 // What a session call answers: its number, and the session handed back.
+#[repr(C)]
 pub struct Answered {
     pub number: u64,
     pub session: State,

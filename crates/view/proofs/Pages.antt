@@ -117,16 +117,16 @@ span a b p false e =
     let c : a - b + 1 ≡ 1 = omega arith in
     rw (c, one-mul) (omega arith)
 
-pub pages-end-near : (p at n : ℕ) → at / p * p + pagesIn p at n * p ≤ at + n + p
+pub pages-end-near : (p at n : ℕ) → 0 < p → at / p * p + pagesIn p at n * p < at + n + p
 unfolding pagesIn
-pages-end-near p at zero = rw zero-mul (omega (arith, div-add-mod' at p))
-pages-end-near p at (suc n) = omega (arith, span ((at + n) / p) (at / p) p (leb (at / p) ((at + n) / p)) refl, div-add-mod' (at + n) p, div-add-mod' at p)
+pages-end-near p at zero l = rw zero-mul (omega (arith, div-add-mod' at p))
+pages-end-near p at (suc n) l = omega (arith, span ((at + n) / p) (at / p) p (leb (at / p) ((at + n) / p)) refl, div-add-mod' (at + n) p, div-add-mod' at p)
 
 pub pages-order : (p at m : ℕ) → 0 < p → at / p ≤ (at + m) / p
 pages-order p at m h = le-div-iff-mul-le h .1 (omega (arith, div-add-mod' at p))
 
-pub range-room : (p at n : ℕ) {m : ℕ} → m ≡ pagesIn p at n → at + n ≤ 16777216 → p ≤ 4096 → at / p * p + m * p ≤ 33554432
-range-room p at n e l k = rw e (omega (arith, pages-end-near p at n))
+pub range-room : (p at n : ℕ) {m : ℕ} → m ≡ pagesIn p at n → at + n ≤ 16777216 → 16 ≤ p → p ≤ 4096 → at / p * p + m * p ≤ 33554432
+range-room p at n e l j k = rw e (omega (arith, pages-end-near p at n (omega arith)))
 
 pub range-parts : (own h : List ℕ) (v : View) (at n : ℕ) {m : ℕ} {b : Bool} → m ≡ pagesIn (v .page) at n
     → b ≡ pagesWrong own h (v .page) (indexIn h v) (pagesFrom (v .page) (at / v .page * v .page) m)

@@ -158,7 +158,7 @@ pub fn put_view(
 }
 
 // How many pages n bytes from an offset share a byte with.
-fn pages_in(page: usize, at: usize, n: usize) -> usize
+pub fn pages_in(page: usize, at: usize, n: usize) -> usize
     requires { ⌜ (16 ≤ page) × (at + n ≤ 16777216) ⌝ }
     ensures { λ r. ⌜ r ≡ pagesIn page at n ⌝ }
 {

@@ -1,4 +1,5 @@
-pub mod Copies
-pub mod Touches
-pub mod Loop
-pub mod Counting
+pub mod Counts
+pub mod Room
+pub mod Steps
+pub mod Pages
+pub mod Determined

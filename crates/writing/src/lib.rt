@@ -1,228 +1,153 @@
-// The pages of a write: each is copied behind the session's others at its first touch, and the bytes are laid over it.
+// A write: its rows, then its pages and the session's new size.
+use rules::Record;
 use rules::Setting;
 use rules::State;
+use sessions::Answered;
 ghost use mathlib.Core.Path.{_≡_};
-ghost use mathlib.Core.Bool.{cond};
-ghost use mathlib.Core.List.{[], _∷_};
-ghost use Prim.Native.Nat.{_+_, _-_, _*_, _%_, _≤_, _<_, min, max};
-ghost use lib.Dec.{ltb};
-ghost use lib.ListN.{length, take};
-ghost use Rattle.rules.specs.Bytes.{laid, tabulate};
-ghost use Rattle.rules.specs.Layout.{entriesAt};
-ghost use Rattle.rules.specs.View.{logicals, pagesFrom};
-ghost use Rattle.rules.specs.Session.{Held, touched, laidOnPage, writtenPages, mergedCount};
-ghost use Rattle.index.specs.Rising.{Rising};
-ghost use Rattle.view.specs.Seen.{originalByte};
-ghost use Rattle.writing.specs.Pages.{Source, Ready, Counted, pageByte, keptByte};
+ghost use Prim.Native.Nat.{_+_, _*_, _≤_};
+ghost use lib.ListN.{length};
+ghost use Rattle.rules.specs.Layout.{indexOf, recordOf};
+ghost use Rattle.rules.specs.View.{ownPages, pagesShared};
+ghost use Rattle.rules.specs.Session.{Held, touching, written};
+ghost use Rattle.rules.specs.Rows.{tooMany, noRoom, writeTooFar};
+ghost use Rattle.rules.specs.Calls.{Outcome, row, _then_, writeRows, write};
+ghost use Rattle.whole.specs.Sound.{Sound};
+ghost use Rattle.records.specs.Lying.{SoundRecord};
+ghost use Rattle.sessions.specs.Sound.{SoundSession};
 
-// Lays the first n bytes of the page at an address behind the index: of the stored page, else of the original.
-fn put_page(
-    history: &mut [u8],
-    original: &[u8],
-    at: usize,
-    entries: usize,
-    to: usize,
-    address: usize,
-    n: usize,
-)
-    requires { ⌜ Source (now history) at entries to n ⌝ }
-    ensures { λ _. ⌜ now (history .exit) ≡ laid (now (history .entry)) to (tabulate n (pageByte (now (original .entry)) (now (history .entry)) (entriesAt (now (history .entry)) at entries) address)) ⌝ }
+const LIMIT: u64 = 16777216;
+
+// Row 19. The offset may be as large as the limit, so no sum is made.
+fn write_too_far(at: u64, n: u64) -> bool
+    requires { ⌜ at ≤ 16777216 ⌝ }
+    ensures { λ r. ⌜ r ≡ writeTooFar at n ⌝ }
 {
-    let place = index::find(history, at, entries, address as u64);
-    if place < entries {
-        let e = index::entry(history, at, place);
-        numbers::copy_run(history, e.physical as usize, to, n);
-        return;
-    }
-    view::put_original(history, to, original, address, n);
+    LIMIT - at < n
 }
 
-// Lays the page at an address, of which the first bytes are kept and the others are zero.
-fn first_copy(
-    history: &mut [u8],
-    original: &[u8],
-    at: usize,
-    entries: usize,
-    page: usize,
-    to: usize,
-    address: usize,
-    keep: usize,
-)
-    requires { ⌜ (Source (now history) at entries to page) × (keep ≤ page) ⌝ }
-    ensures { λ _. ⌜ now (history .exit) ≡ laid (now (history .entry)) to (tabulate page (keptByte (now (original .entry)) (now (history .entry)) (entriesAt (now (history .entry)) at entries) address keep)) ⌝ }
+// Rows 14 and 15, judged on the pages and entries that would result.
+fn room_rows(st: State, history: &[u8], s: Setting, r: Record, at: usize, n: usize) -> u64
+    requires { ⌜ (Sound (now history) s) × (SoundSession (now history) s st) × (SoundRecord (now history) s r) × (at + n ≤ 16777216) ⌝ }
+    ensures { λ k. ⌜ k ≡ row 14 (tooMany (indexOf (now (history .entry)) r) (touching (ownPages st) (pagesShared (s .page) at n)))
+        then row 15 (noRoom (length (now (history .entry))) (st .end + length (touching (ownPages st) (pagesShared (s .page) at n)) * s .page)) ⌝ }
 {
-    put_page(&mut *history, original, at, entries, to, address, keep);
-    numbers::put_zeros(history, to + keep, page - keep);
-}
-
-// How many bytes of a page lie below a size.
-fn keep_of(page: usize, size: usize, address: usize) -> usize
-    ensures { λ r. ⌜ r ≡ min page (size - address) ⌝ }
-{
-    if size <= address {
-        return 0;
-    }
-    if size - address < page {
-        return size - address;
-    }
-    page
-}
-
-// The session with a page, copied at its first touch.
-fn touch(
-    st: State,
-    original: &[u8],
-    history: &mut [u8],
-    s: Setting,
-    at: usize,
-    entries: usize,
-    address: u32,
-) -> State
-    requires { ⌜ (Ready (now history) s at entries (entriesAt (now history) at entries) st (address ∷ [])) × (address % s .page ≡ 0) × (address ≤ 16777216) ⌝ }
-    ensures { λ r. ⌜ _≡_ {A = Held} (record { history = now (history .exit); session = r })
-        (touched (now (original .entry)) s (entriesAt (now (history .entry)) at entries) address (record { history = now (history .entry); session = st })) ⌝ }
-{
-    let n = st.n as usize;
-    if index::own_place(&st.pages, n, address as u64) < n {
-        return st;
-    }
     let page = s.page as usize;
-    let to = st.end as usize + n * page;
-    let keep = keep_of(page, st.size as usize, address as usize);
-    first_copy(
-        &mut *history,
-        original,
-        at,
+    let index = records::index_at(r);
+    let entries = r.entries as usize;
+    let own = st.n as usize;
+    let before = merge::merged_count(history, index, entries, &st.pages, own);
+    let m = view::pages_in(page, at, n);
+    let first = (at / page * page) as u64;
+    let would = touching::count_pages(
+        history,
+        index,
         entries,
-        page,
-        to,
-        address as usize,
-        keep,
+        &st.pages,
+        own,
+        before,
+        s.page,
+        first,
+        m,
     );
-    let mut t = st;
-    t.pages[n] = address;
-    t.n = st.n + 1;
-    t
+    if 256 < would.touched {
+        return 14;
+    }
+    if 4096 < would.merged {
+        return 14;
+    }
+    if history.len() < st.end as usize + would.touched * page {
+        return 15;
+    }
+    0
 }
 
-fn least(a: usize, b: usize) -> usize
-    ensures { λ r. ⌜ r ≡ min a b ⌝ }
+// Write 1 to 5, 13, 7, 8, 10, 19, 14, 15, 9.
+fn write_rows(st: State, original: &[u8], history: &[u8], at: u64, n: usize) -> u64
+    ensures { λ r. ⌜ r ≡ writeRows st (now (original .entry)) (now (history .entry)) at n ⌝ }
 {
-    if a < b { a } else { b }
+    let refusal = session_reading::begin_rows(st, original, history);
+    if refusal != 0 {
+        return refusal;
+    }
+    if st.size < at {
+        return 10;
+    }
+    if write_too_far(at, n as u64) {
+        return 19;
+    }
+    let s = whole::setting(history);
+    let r = records::record_of(history, s, st.parent);
+    let number = room_rows(st, history, s, r, at as usize, n);
+    if number != 0 {
+        return number;
+    }
+    if view::range_wrong(
+        history,
+        session_reading::session_view(s, st, r),
+        &st.pages,
+        at as usize,
+        n,
+    ) {
+        return 9;
+    }
+    0
 }
 
-fn most(a: usize, b: usize) -> usize
-    ensures { λ r. ⌜ r ≡ max a b ⌝ }
-{
-    if a < b { b } else { a }
-}
-
-// One page of a write: it is touched, and the bytes that fall into it are laid over it.
-fn write_page(
+// Writes the pages, and lets the session grow to the end of what was written.
+fn put_written(
     st: State,
     original: &[u8],
     history: &mut [u8],
     s: Setting,
+    r: Record,
     at: usize,
-    entries: usize,
-    offset: usize,
     bytes: &[u8],
-    address: u32,
 ) -> State
-    requires { ⌜ (Ready (now history) s at entries (entriesAt (now history) at entries) st (address ∷ [])) × (address % s .page ≡ 0) ⌝ }
-    requires { ⌜ (address < offset + length (now bytes)) × (offset < address + s .page) × (offset + length (now bytes) ≤ 16777216) ⌝ }
-    ensures { λ r. ⌜ _≡_ {A = Held} (record { history = now (history .exit); session = r })
-        (laidOnPage s offset (now (bytes .entry)) address
-        (touched (now (original .entry)) s (entriesAt (now (history .entry)) at entries) address (record { history = now (history .entry); session = st }))) ⌝ }
+    requires { ⌜ (Sound (now history) s) × (SoundSession (now history) s st) × (SoundRecord (now history) s r) × (at + length (now bytes) ≤ 16777216) ⌝ }
+    requires { ⌜ (length (touching (ownPages st) (pagesShared (s .page) at (length (now bytes)))) ≤ 256)
+        × (st .end + length (touching (ownPages st) (pagesShared (s .page) at (length (now bytes)))) * s .page ≤ length (now history)) ⌝ }
+    ensures { λ t. ⌜ _≡_ {A = Held} (record { history = now (history .exit); session = t })
+        (written (now (original .entry)) s (indexOf (now (history .entry)) r) at (now (bytes .entry)) (record { history = now (history .entry); session = st })) ⌝ }
 {
-    let t = touch(st, original, &mut *history, s, at, entries, address);
-    let place = index::own_place(&t.pages, t.n as usize, address as u64);
     let page = s.page as usize;
-    let a = address as usize;
-    let first = most(offset, a);
-    let last = least(offset + bytes.len(), a + page);
-    let to = t.end as usize + place * page + (first - a);
-    let from = first - offset;
-    let end = last - offset;
-    numbers::put_run(history, to, &bytes[from..end]);
+    let n = bytes.len();
+    let size = touching::most(st.size as usize, at + n);
+    let m = view::pages_in(page, at, n);
+    let first = (at / page * page) as u32;
+    let mut t = touching::write_pages(
+        st,
+        original,
+        history,
+        s,
+        records::index_at(r),
+        r.entries as usize,
+        at,
+        bytes,
+        s.page as u32,
+        first,
+        m,
+    );
+    t.size = size as u64;
     t
 }
 
-// A write over m pages from an address on, in rising order.
-pub fn write_pages(
-    st: State,
-    original: &[u8],
-    history: &mut [u8],
-    s: Setting,
-    at: usize,
-    entries: usize,
-    offset: usize,
-    bytes: &[u8],
-    step: u32,
-    first: u32,
-    m: usize,
-) -> State
-    requires { ⌜ (Ready (now history) s at entries (entriesAt (now history) at entries) st (pagesFrom (s .page) first m)) × (first % s .page ≡ 0) × (step ≡ s .page) ⌝ }
-    requires { ⌜ (first ≤ offset) × (offset < first + s .page) × (first + m * s .page < offset + length (now bytes) + s .page) × (offset + length (now bytes) ≤ 16777216) ⌝ }
-    ensures { λ r. ⌜ _≡_ {A = Held} (record { history = now (history .exit); session = r })
-        (writtenPages (now (original .entry)) s (entriesAt (now (history .entry)) at entries) offset (now (bytes .entry)) (pagesFrom (s .page) first m) (record { history = now (history .entry); session = st })) ⌝ }
+// Writes bytes into a session from an offset on. A refusal leaves history and session alone.
+pub fn write(st: State, original: &[u8], history: &mut [u8], at: u64, bytes: &[u8]) -> Answered
+    ensures { λ r. ⌜ _≡_ {A = Outcome} (record { number = r .number; session = r .session; bytes = now (history .exit) })
+        (write st (now (original .entry)) (now (history .entry)) at (now (bytes .entry))) ⌝ }
 {
-    let mut t = st;
-    let mut a = first;
-    let mut k: usize = 0;
-    while k < m {
-        t = write_page(t, original, &mut *history, s, at, entries, offset, bytes, a);
-        a += step;
-        k += 1;
+    let refused = write_rows(st, original, history, at, bytes.len());
+    if refused != 0 {
+        return Answered {
+            number: refused,
+            session: st,
+        };
     }
-    t
-}
-
-// How many pages and entries a write over m pages from an address on would leave.
-pub struct Counts {
-    pub touched: usize,
-    pub merged: usize,
-}
-
-// Counts them, and leaves off once there are over 256 pages.
-pub fn count_pages(
-    history: &[u8],
-    at: usize,
-    entries: usize,
-    pages: &[u32],
-    n: usize,
-    before: usize,
-    step: u64,
-    first: u64,
-    m: usize,
-) -> Counts
-    requires { ⌜ (at + 24 * entries ≤ length (now history)) × (Rising (logicals (entriesAt (now history) at entries))) × (n ≤ length (now pages)) × (n ≤ 256) ⌝ }
-    requires { ⌜ (before ≡ mergedCount (entriesAt (now history) at entries) (take n (now pages))) × (before ≤ 4096 + n) × (0 < step) × (first + m * step ≤ 33554432) ⌝ }
-    ensures { λ r. ⌜ Counted (entriesAt (now (history .entry)) at entries) (take n (now (pages .entry))) (pagesFrom step first m) (r .touched) (r .merged) ⌝ }
-{
-    let mut touched = n;
-    let mut merged = before;
-    let mut a = first;
-    let mut k: usize = 0;
-    while k < m {
-        if 256 < touched {
-            return Counts {
-                touched: touched,
-                merged: merged,
-            };
-        }
-        let here = a;
-        a += step;
-        k += 1;
-        if n <= index::own_place(pages, n, here) {
-            touched += 1;
-            if entries <= index::find(history, at, entries, here) {
-                merged += 1;
-            }
-        }
-    }
-    Counts {
-        touched: touched,
-        merged: merged,
+    let s = whole::setting(history);
+    let r = records::record_of(history, s, st.parent);
+    let after = put_written(st, original, history, s, r, at as usize, bytes);
+    Answered {
+        number: 0,
+        session: after,
     }
 }

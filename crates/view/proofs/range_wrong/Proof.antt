@@ -16,7 +16,7 @@ mul-pages-wrong : tie.Need-mul-pages-wrong
 mul-pages-wrong c = omega (arith, div-add-mod' (c .before .before .before .args .at) (c .before .before .before .args .v .page))
 
 pages-wrong-requires : tie.Need-pages-wrong-requires
-pages-wrong-requires c κs = (c .before .before .before .pre .0, c .before .before .before .pre .1, range-room (c .before .before .before .args .v .page) (c .before .before .before .args .at) (c .before .before .before .args .n) (c .pages-in .ensures) (c .before .before .before .pre .2) (c .before .before .before .pre .0 .most))
+pages-wrong-requires c κs = (c .before .before .before .pre .0, c .before .before .before .pre .1, range-room (c .before .before .before .args .v .page) (c .before .before .before .args .at) (c .before .before .before .args .n) (c .pages-in .ensures) (c .before .before .before .pre .2) (c .before .before .before .pre .0 .least) (c .before .before .before .pre .0 .most))
 
 returns : tie.Need-returns
 returns c = range-parts _ _ (c .before .before .before .before .args .v) _ _ (c .before .pages-in .ensures) (c .pages-wrong .ensures)

@@ -1,0 +1,4 @@
+pub mod Copies
+pub mod Touches
+pub mod Loop
+pub mod Counting
