@@ -1,23 +1,24 @@
 -- What a commit lays, one store behind the other, is what the rules say that it leaves.
-use mathlib.Core.Path.{_≡_, _∙_}
+use mathlib.Core.Path.{_≡_, sym, ap, _∙_}
 use mathlib.Core.List.{List, _++_}
 use Prim.Native.Nat.{ℕ, _+_, _*_, _≤_}
 use native.Mathlib.Omega.{arith}
 use lib.ListN.{length, length-append}
+use borrow.Author.Tests.{eqb-true}
 use Rattle.rules.specs.Bytes.{part, laid}
-use Rattle.rules.specs.Layout.{summed, headerBytes, entriesAt, indexOf, recordSize, recordBytes, wholeSize, wholeBytes, locationAt, locationBytes}
+use Rattle.rules.specs.Layout.{settingOf, settingWith, summed, headerBytes, entriesAt, indexOf, recordSize, recordBytes, wholeSize, wholeBytes, locationAt, locationBytes}
 use Rattle.rules.specs.View.{ownPages}
 use Rattle.rules.specs.Session.{putAll, ownEntry, mergedIndex, mergedCount, committed}
 use Rattle.rules.specs.declared.Setting.{Setting}
 use Rattle.rules.specs.declared.Record.{Record}
 use Rattle.rules.specs.declared.Entry.{Entry}
 use Rattle.rules.specs.declared.State.{State}
-use Rattle.rules.proofs.Bytes.{length-numberBytes, part-laid-below}
+use Rattle.rules.proofs.Bytes.{length-numberBytes, part-laid-below, byte-laid-below}
 use Rattle.rules.proofs.Index.{length-indexBytes, length-merged}
 use Rattle.records.specs.Lying.{indexAt}
 use Rattle.records.proofs.Fields.{index-there}
 use Rattle.records.proofs.Stands.{index-rising, page-below}
-use Rattle.recording.specs.Recordable.{Recordable, Extensible}
+use Rattle.recording.specs.Recordable.{Locked, Recordable, Extensible}
 use Rattle.committing.specs.Stored.{recordStored, settingStored, Committable}
 
 -- ---- Sizes
@@ -65,9 +66,14 @@ module _ (h : List ℕ) (s : Setting) (st : State) (parent r : Record) (time nam
 
   -- ---- What the stores ask
 
+  lock-stands : Locked h
+  unfolding settingOf settingWith
+  lock-stands = eqb-true _ _ (sym (ap (λ (t : Setting). t .lock) (q .standing .sound .setting)) ∙ q .standing .session .locked)
+
   pub recordable : {at : ℕ} → at ≡ indexAt parent → st .n ≤ length (st .pages) → Recordable h at (parent .entries) (st .pages) (st .n) (st .end) r time name comment
   recordable e l =
       record {
+        locked = lock-stands;
         short = q .standing .sound .short;
         rising = rw e (index-rising h s parent (q .standing .right));
         small = λ k j. rw e (omega (arith, page-below h s parent (q .standing .right) k j, q .standing .right .small));
@@ -83,9 +89,15 @@ module _ (h : List ℕ) (s : Setting) (st : State) (parent r : Record) (time nam
         room = omega (arith, stored-room);
       }
 
-  pub extensible : {h1 : List ℕ} → length h1 ≡ length h → Extensible h1 s r
-  extensible e =
+  -- The record stands behind the header, and leaves its lock alone.
+  lock-left : {h1 : List ℕ} (bytes : List ℕ) → h1 ≡ laid h (r .address) bytes → r .address + length bytes ≤ length h → Locked h1
+  lock-left {h1} bytes e l =
+      rw (e, byte-laid-below h (r .address) bytes l 5 (omega (arith, stored-behind, q .standing .sound .behind))) lock-stands
+
+  pub extensible : {h1 : List ℕ} (bytes : List ℕ) → h1 ≡ laid h (r .address) bytes → length bytes ≡ r .size → length h1 ≡ length h → Extensible h1 s r
+  extensible bytes p b e =
       record {
+        locked = lock-left bytes p (omega (arith, stored-room));
         short = omega (arith, q .standing .sound .short);
         few = q .standing .session .few;
         ahead = omega (arith, stored-behind, q .standing .sound .sized);
@@ -117,9 +129,18 @@ module _ (h : List ℕ) (s : Setting) (st : State) (parent r : Record) (time nam
     record-same e = rw (q .stored, merged-same e)
 
     -- The record has the size that it says, so it leaves the locations ahead of it alone.
+    stored-long : length stored ≡ r .size
+    stored-long = length-recordBytes (s .count + 1) (st .parent) time (st .size) (s .page) user merged name comment (q .time-long) ∙ rw (length-merged h s st (indexOf h parent), size-is)
+
+    pub record-long : {at : ℕ} → at ≡ indexAt parent
+        → length (recordBytes (r .revision) (r .parent) time (r .logical) (r .page) user
+        (putAll (ownEntry h (r .page) (st .end)) 0 (ownPages st) (entriesAt h at (parent .entries))) name comment)
+        ≡ r .size
+    record-long e = ap length (record-same e) ∙ stored-long
+
     locations-same : part (laid h (r .address) stored) (locationAt s 1) (20 * s .count) ≡ part h (locationAt s 1) (20 * s .count)
     locations-same =
-        part-laid-below h (r .address) stored (omega (arith, length-recordBytes (s .count + 1) (st .parent) time (st .size) (s .page) user merged name comment (q .time-long), length-merged h s st (indexOf h parent), size-is, stored-room)) (locationAt s 1) (20 * s .count)
+        part-laid-below h (r .address) stored (omega (arith, stored-long, stored-room)) (locationAt s 1) (20 * s .count)
         (omega (arith, stored-behind, q .standing .sound .sized))
 
     pub commit-leaves : (h1 h2 h3 : List ℕ) {at : ℕ} {t : Setting} → at ≡ indexAt parent

@@ -1,5 +1,5 @@
 use native.Mathlib.Omega.{arith}
-use Rattle.committing.proofs.Layings.{recordable, extensible, stored-small, commit-leaves}
+use Rattle.committing.proofs.Layings.{recordable, extensible, record-long, stored-small, commit-leaves}
 use borrow.Author.Needs.{needs}
 use Rattle.committing.proofs.put_commit.Statement.{statement}
 use Rattle.committing.proofs.put_commit.Tie as tie
@@ -11,7 +11,9 @@ put-record-requires : tie.Need-put-record-requires
 put-record-requires c κs = recordable _ _ _ _ _ _ _ _ (c .before .before .before .before .before .before .before .before .before .pre) (c .before .before .before .before .index-at .ensures) (omega (arith, c .before .before .before .before .before .before .before .before .before .pre .standing .session .touched))
 
 put-whole-requires : tie.Need-put-whole-requires
-put-whole-requires c κs = extensible _ _ _ _ _ _ _ _ (c .before .before .before .before .before .before .before .before .before .before .before .before .before .pre) (search needs)
+put-whole-requires c κs =
+    let q = c .before .before .before .before .before .before .before .before .before .before .before .before .before .pre in
+    extensible _ _ _ _ _ _ _ _ q _ (c .before .before .before .put-record .ensures) (record-long _ _ _ _ _ _ _ _ q (c .before .before .before .before .before .before .before .before .before .before .before .before .before .args .user) (c .before .before .before .before .before .before .before .before .index-at .ensures)) (search needs)
 
 setting-stored-requires : tie.Need-setting-stored-requires
 setting-stored-requires c κs = stored-small _ _ _ _ _ _ _ _ (c .before .before .before .before .before .before .before .before .before .before .before .before .before .before .before .before .before .pre)
