@@ -6,8 +6,9 @@
 ghost use mathlib.Core.Path.{_≡_};
 ghost use Prim.Native.Nat.{_+_, _*_, _%_, _^_, _≤_, _<_};
 ghost use lib.ListN.{length};
+ghost use Rattle.rules.specs.Bytes.{part};
 ghost use Rattle.rules.specs.Checksum.{folded, checksum};
-ghost use Rattle.checksum.specs.Passing.{lowWordAt, firstTotal, secondTotal, ordered, Sums};
+ghost use Rattle.checksum.specs.Passing.{lowWordAt, highWordAt, firstTotal, secondTotal, ordered, Sums};
 
 // A byte as a number to calculate with. A call of this asks its caller for no proof that the byte fits.
 fn wide(x: u8) -> u64
@@ -47,6 +48,34 @@ fn word(bytes: &[u8], at: usize) -> u64
     ensures { λ r. ⌜ (r ≡ lowWordAt (now (bytes .entry)) at) × (r < 65536) ⌝ }
 {
     wide(bytes[at]) + wide(bytes[at + 1]) * 256
+}
+
+// The word at an address, its high byte first, as the layout has it.
+fn high_word(bytes: &[u8], at: usize) -> u64
+    requires { ⌜ at + 2 ≤ length (now bytes) ⌝ }
+    ensures { λ r. ⌜ (r ≡ highWordAt (now (bytes .entry)) at) × (r < 65536) ⌝ }
+{
+    wide(bytes[at]) * 256 + wide(bytes[at + 1])
+}
+
+// The checksum of the sixteen bytes at an address. Locations and entries have one each, so it goes straight through their eight words,
+// from running total to running total.
+pub fn fletcher32_sixteen(bytes: &[u8], at: usize) -> u64
+    requires { ⌜ at + 16 ≤ length (now bytes) ⌝ }
+    ensures { λ r. ⌜ (r ≡ checksum (part (now (bytes .entry)) at 16)) × (r < 2 ^ 32) ⌝ }
+{
+    let one = high_word(bytes, at);
+    let two = one + high_word(bytes, at + 2);
+    let three = two + high_word(bytes, at + 4);
+    let four = three + high_word(bytes, at + 6);
+    let five = four + high_word(bytes, at + 8);
+    let six = five + high_word(bytes, at + 10);
+    let seven = six + high_word(bytes, at + 12);
+    let eight = seven + high_word(bytes, at + 14);
+    join(
+        fold(eight),
+        fold(one + two + three + four + five + six + seven + eight),
+    )
 }
 
 // How many bytes were passed, and the two exact totals after them.

@@ -45,6 +45,11 @@ pub sum-parts : (h : List ℕ) (at n sumAt : ℕ) {stored sum : ℕ} → stored 
 unfolding sumStands
 sum-parts h at n sumAt e f = let l : at + n - at ≡ n = omega arith in rw (e, f, l)
 
+pub sixteen-parts : (h : List ℕ) (at sumAt : ℕ) {stored sum : ℕ} → stored ≡ numberAt 4 h sumAt → sum ≡ checksum (part h at 16)
+    → eqb stored sum ≡ sumStands h at 16 sumAt
+unfolding sumStands
+sixteen-parts h at sumAt e f = rw (e, f)
+
 -- The fields, one by one.
 pub setting-parts : (h : List ℕ) (count : ℕ) {page original address size : ℕ} {lock branching : Bool} → page ≡ numberAt 4 h 8
     → original ≡ numberAt 8 h 12 → address ≡ numberAt 8 h 20 → size ≡ numberAt 8 h 28 → lock ≡ eqb (byteAt h 5 % 2) 1

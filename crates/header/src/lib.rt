@@ -46,6 +46,14 @@ pub fn sum_stands(history: &[u8], at: usize, n: usize, sum_at: usize) -> bool
     numbers::get_u32(history, sum_at) == checksum::fletcher32(&history[at..to])
 }
 
+// The same of sixteen bytes.
+fn sixteen_stands(history: &[u8], at: usize, sum_at: usize) -> bool
+    requires { ⌜ (at + 16 ≤ length (now history)) × («sum_at» + 4 ≤ length (now history)) ⌝ }
+    ensures { λ r. ⌜ r ≡ sumStands (now (history .entry)) at 16 «sum_at» ⌝ }
+{
+    numbers::get_u32(history, sum_at) == checksum::fletcher32_sixteen(history, at)
+}
+
 // The same of n locations or entries of a width from an address on: at an offset in each stands the checksum of its first 16 bytes.
 pub fn sums_stand(history: &[u8], at: usize, n: usize, width: usize, offset: usize) -> bool
     requires { ⌜ (at + n * width ≤ length (now history)) × (length (now history) ≤ 16777216) × (16 ≤ width) × (offset + 4 ≤ width) ⌝ }
@@ -54,7 +62,7 @@ pub fn sums_stand(history: &[u8], at: usize, n: usize, width: usize, offset: usi
     let mut place = at;
     let mut i: usize = 0;
     while i < n {
-        if !sum_stands(history, place, 16, place + offset) {
+        if !sixteen_stands(history, place, place + offset) {
             return false;
         }
         place += width;

@@ -1,16 +1,20 @@
--- The loops of the two searches: by halves among addresses that rise, and one by one among a session's pages.
-use mathlib.Core.Path.{_≡_, sym, _∙_}
+-- The loops of the two searches: by halves among addresses that rise, and by blocks and then one by one among a session's pages.
+use mathlib.Core.Path.{_≡_, refl, sym, _∙_}
+use mathlib.Core.Bool.{Bool, true, false, _||_, true≢false}
 use mathlib.Core.List.{List}
 use mathlib.Core.Logic.{⊎-elim}
 use Prim.Native.Nat.{ℕ, _+_, _≤_, _<_}
 use native.Mathlib.Nat.{eq-or-lt-of-le}
 use native.Mathlib.Omega.{arith}
 use borrow.Author.Count.{below-more}
+use borrow.Author.Tests.{eqb-false}
+use lib.Dec.{eqb}
 use lib.ListN.{length, take, getD}
 use lib.Seq.{length-take-le, getD-take}
 use Rattle.rules.specs.View.{placeOf}
 use Rattle.rules.proofs.Index.{place-hit, place-miss, order}
 use Rattle.index.specs.Rising.{Rising}
+use Rattle.index.specs.Without.{Without}
 
 -- ---- by halves
 
@@ -52,6 +56,49 @@ module _ {xs : List ℕ} {page low high : ℕ} (rising : Rising xs) (b : Between
 pub search-miss : {xs : List ℕ} {page low high : ℕ} → Between xs page low high → high ≤ low → length xs ≡ placeOf page xs
 search-miss {xs} {page} {low} {high} b h =
     sym (place-miss page xs (λ k l e. ⊎-elim (λ g. omega (arith, b .below k g)) (λ g. omega (arith, b .above k (⊎-elim (λ q. omega arith) (λ q. omega arith) g) l)) (order k low)))
+
+-- ---- by blocks
+
+-- Four tests, none of which held.
+none-held : (p q r s : Bool) → p || q || r || s ≡ false → (p ≡ false) × (q ≡ false) × (r ≡ false) × (s ≡ false)
+none-held true q r s h = absurd (true≢false h)
+none-held false true r s h = absurd (true≢false h)
+none-held false false true s h = absurd (true≢false h)
+none-held false false false s h = (refl, refl, refl, h)
+
+module _ (pages : List ℕ) (page : ℕ) where
+  pub without-both : (from middle to : ℕ) → Without pages from middle page → Without pages middle to page → Without pages from to page
+  without-both from middle to low high k l m e = ⊎-elim (λ g. low k l g e) (λ g. high k (⊎-elim (λ q. omega arith) (λ q. omega arith) g) m e) (order k middle)
+
+  without-one : (at : ℕ) → eqb (getD pages at 0) page ≡ false → (to : ℕ) → to ≡ at + 1 → Without pages at to page
+  without-one at h to q k l m e = let z : k ≡ at = omega arith in eqb-false (getD pages at 0) page h (rw z at e)
+
+  without-upto : (from end : ℕ) → Without pages from end page → (to : ℕ) → to ≡ end → Without pages from to page
+  without-upto from end w to q k l m e = w k l (omega arith) e
+
+  four-runs : (a b c d e : ℕ) → Without pages a b page → Without pages b c page → Without pages c d page → Without pages d e page → Without pages a e page
+  four-runs a b c d e p q r s = without-both a d e (without-both a c d (without-both a b c p q) r) s
+
+  pub four-pages : (at : ℕ) → eqb (getD pages at 0) page || eqb (getD pages (at + 1) 0) page || eqb (getD pages (at + 2) 0) page || eqb (getD pages (at + 3) 0) page ≡ false
+      → Without pages at (at + 4) page
+  four-pages at h =
+      let t = none-held _ _ _ _ h in
+      four-runs at (at + 1) (at + 2) (at + 3) (at + 4)
+      (without-one at (t .0) (at + 1) (omega arith))
+      (without-one (at + 1) (t .1) (at + 2) (omega arith))
+      (without-one (at + 2) (t .2) (at + 3) (omega arith))
+      (without-one (at + 3) (t .3) (at + 4) (omega arith))
+
+  pub four-blocks : (at : ℕ) (p q r s : Bool) → (p ≡ false → Without pages at (at + 4) page) → (q ≡ false → Without pages (at + 4) (at + 4 + 4) page)
+      → (r ≡ false → Without pages (at + 8) (at + 8 + 4) page) → (s ≡ false → Without pages (at + 12) (at + 12 + 4) page)
+      → p || q || r || s ≡ false → Without pages at (at + 16) page
+  four-blocks at p q r s one two three four h =
+      let t = none-held p q r s h in
+      four-runs at (at + 4) (at + 8) (at + 12) (at + 16)
+      (one (t .0))
+      (without-upto (at + 4) (at + 4 + 4) (two (t .1)) (at + 8) (omega arith))
+      (without-upto (at + 8) (at + 8 + 4) (three (t .2)) (at + 12) (omega arith))
+      (without-upto (at + 12) (at + 12 + 4) (four (t .3)) (at + 16) (omega arith))
 
 -- ---- one by one
 

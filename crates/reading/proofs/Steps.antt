@@ -21,7 +21,7 @@ use Rattle.whole.specs.Sound.{Sound}
 use Rattle.whole.proofs.Sound.{both-sound}
 use Rattle.records.specs.Lying.{SoundRecord, indexAt}
 use Rattle.records.proofs.Fields.{index-there}
-use Rattle.records.proofs.Stands.{index-rising, page-ahead}
+use Rattle.records.proofs.Stands.{index-rising, page-multiple, page-ahead}
 use Rattle.revisions.proofs.Known.{asked-stands}
 use Rattle.view.specs.Seen.{Seen, indexIn, viewByte, shown}
 use Rattle.view.specs.declared.View.{View}
@@ -90,6 +90,7 @@ view-seen h s r w q e =
       few = q .few;
       room = omega (arith, q .inside, w .inside);
       rising = index-rising h s r q;
+      multiple = page-multiple h s r q;
       stored = λ k l. omega (arith, page-ahead h s r q k l, q .below, w .inside);
       owned = omega arith;
     })

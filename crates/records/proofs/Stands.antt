@@ -1,7 +1,7 @@
 -- The index of a record that was checked, at the address where it is looked for.
 use mathlib.Core.Path.{_≡_}
 use mathlib.Core.List.{List}
-use Prim.Native.Nat.{ℕ, _+_, _≤_, _<_}
+use Prim.Native.Nat.{ℕ, _+_, _%_, _≤_, _<_}
 use lib.ListN.{length, getD}
 use Rattle.rules.specs.Layout.{entriesAt, indexOf}
 use Rattle.rules.specs.View.{noEntry, logicals}
@@ -18,6 +18,10 @@ module _ (h : List ℕ) (s : Setting) (r : Record) (q : SoundRecord h s r) where
 
   stands : (k : ℕ) → k < r .entries → EntryRight s r (getD (entriesAt h (indexAt r) (r .entries)) k noEntry)
   stands k l = rw (index-there h r) (entry-right s r 0 (indexOf h r) (q .right) k (rw (length-entries h (r .address + 72) (r .entries)) l))
+
+  -- Its addresses are those of pages.
+  pub page-multiple : (k : ℕ) → k < r .entries → getD (logicals (entriesAt h (indexAt r) (r .entries))) k 0 % s .page ≡ 0
+  page-multiple k l = rw (logical-at (entriesAt h (indexAt r) (r .entries)) k) (stands k l .multiple)
 
   -- Its pages lie ahead of the record, and below its logical size.
   pub page-ahead : (k : ℕ) → k < r .entries → getD (entriesAt h (indexAt r) (r .entries)) k noEntry .physical + s .page ≤ r .address

@@ -69,6 +69,7 @@ module _ (h : List ℕ) (s : Setting) (st : State) (r : Record) {v : View} (e : 
         few = z .few;
         room = z .room;
         rising = z .rising;
+        multiple = z .multiple;
         stored = z .stored;
         owned = q .room;
       })

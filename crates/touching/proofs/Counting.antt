@@ -1,48 +1,23 @@
 -- The pages and entries that a write would leave, counted page by page (rows 14 and 15).
-use mathlib.Core.Path.{_≡_, refl, sym, ap, _∙_}
+use mathlib.Core.Path.{_≡_, sym, ap, _∙_}
 use mathlib.Core.Bool.{Bool, true, false, cond, _||_, or-false, or-true}
 use mathlib.Core.List.{List, [], _∷_, _++_}
 use Prim.Native.Nat.{ℕ, zero, suc, _+_, _*_, _-_, _≤_, _<_}
-use native.Mathlib.Nat.{add-zero, zero-mul, suc-mul, add-assoc, mul-le-mul-right}
+use native.Mathlib.Nat.{add-zero, zero-mul, suc-mul, mul-le-mul-right}
 use native.Mathlib.Numerals.{add-one}
 use native.Mathlib.Omega.{arith}
-use lib.ListN.{length, take, getD}
-use lib.Seq.{length-take-le}
+use lib.ListN.{length}
 use borrow.Author.Tests.{lt-ltb, le-ltb}
 use Rattle.rules.specs.Layout.{entriesAt}
 use Rattle.rules.specs.View.{placeOf, has, logicals, hasPage, pagesFrom}
 use Rattle.rules.specs.Session.{touching, mergedCount}
 use Rattle.rules.specs.declared.Entry.{Entry}
-use Rattle.rules.proofs.Index.{has-nowhere, length-touching, length-logicals-entries}
+use Rattle.rules.proofs.Index.{length-touching, length-logicals-entries}
 use Rattle.index.specs.Rising.{Rising}
 use Rattle.index.proofs.Rising.{count-touching}
 use Rattle.touching.specs.Pages.{Counted}
-use Rattle.touching.proofs.Touches.{touching-grows}
-
--- One page more behind the others.
-pub pages-snoc : (p a k : ℕ) → pagesFrom p a (suc k) ≡ pagesFrom p a k ++ ((a + k * p) ∷ [])
-unfolding pagesFrom
-pages-snoc p a zero = let e : a + 0 * p ≡ a = rw (zero-mul, add-zero) in rw e
-pages-snoc p a (suc k) =
-    let e : a + p + k * p ≡ a + suc k * p = omega (arith, suc-mul k p) in
-    ap (λ (l : List ℕ). a ∷ l) (pages-snoc p (a + p) k ∙ rw e)
-
-length-pages : (p a k : ℕ) → length (pagesFrom p a k) ≡ k
-unfolding pagesFrom
-length-pages p a zero = refl
-length-pages p a (suc k) = rw (length-pages p (a + p) k)
-
-page-at : (p a k i : ℕ) → i < k → getD (pagesFrom p a k) i 0 ≡ a + i * p
-unfolding pagesFrom
-page-at p a zero i l = absurd (omega arith)
-page-at p a (suc k) zero l = sym (rw (zero-mul, add-zero))
-page-at p a (suc k) (suc i) l = page-at p (a + p) k i (omega arith) ∙ omega (arith, suc-mul i p)
-
--- Pages touched in two goes.
-pub touching-append : (own xs ys : List ℕ) → touching own (xs ++ ys) ≡ touching (touching own xs) ys
-unfolding touching
-touching-append own [] ys = refl
-touching-append own (x ∷ xs) ys = touching-append (cond (has own x) own (own ++ (x ∷ []))) xs ys
+use Rattle.touching.proofs.Copies.{touching-grows}
+use Rattle.touching.proofs.Range.{pages-none, pages-behind, touching-append}
 
 -- ---- The loop
 
@@ -61,15 +36,10 @@ module _ (index : List Entry) (own : List ℕ) (p first : ℕ) where
 
   module _ {m a k touched merged : ℕ} (c : Counting m a k touched merged) (more : k < m) (rising : Rising (logicals index)) (pos : 0 < p) where
     none : has (pagesFrom p first k) a ≡ false
-    none =
-        has-nowhere (pagesFrom p first k) a
-        (λ i l e.
-        let q : i < k = rw (length-pages p first k) at l in
-        let r : suc i * p ≤ k * p = mul-le-mul-right p q in
-        omega (arith, page-at p first k i q, c .spot, suc-mul i p))
+    none = rw (c .spot) (pages-none p first k pos)
 
     behind : pagesFrom p first (k + 1) ≡ pagesFrom p first k ++ (a ∷ [])
-    behind = rw (add-one k) (pages-snoc p first k ∙ rw (c .spot))
+    behind = pages-behind p first k (c .spot)
 
     longer : length (touching own (pagesFrom p first (k + 1))) ≡ touched + cond (has own a) 0 1
     longer = rw behind (length-touching own (pagesFrom p first k) a ∙ rw (none, or-false (has own a), ← (c .pages)))
@@ -134,13 +104,7 @@ module _ {index : List Entry} {own : List ℕ} {p first m a k touched merged : �
       let e : k ≡ m = omega (arith, c .within) in
       record { over = λ q. rw (← e) (omega (arith, c .pages)); exact = λ q. rw (← e) (c .pages, c .entries) }
 
--- What the searches tell.
-pub own-there : (pages : List ℕ) (n a : ℕ) {place : ℕ} → n ≤ length pages → place ≡ placeOf a (take n pages) → place < n → has (take n pages) a ≡ true
-own-there pages n a l e q = rw (← e, length-take-le n pages l) (lt-ltb _ _ q)
-
-pub own-missing : (pages : List ℕ) (n a : ℕ) {place : ℕ} → n ≤ length pages → place ≡ placeOf a (take n pages) → n ≤ place → has (take n pages) a ≡ false
-own-missing pages n a l e q = rw (← e, length-take-le n pages l) (le-ltb _ _ q)
-
+-- What the search in the index tells.
 pub index-has : (h : List ℕ) (at entries a : ℕ) {place : ℕ} → place ≡ placeOf a (logicals (entriesAt h at entries)) → place < entries → hasPage (entriesAt h at entries) a ≡ true
 index-has h at entries a e q = rw (← e, length-logicals-entries h at entries) (lt-ltb _ _ q)
 

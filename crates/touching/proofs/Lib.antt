@@ -1,4 +1,5 @@
 pub mod Copies
+pub mod Range
 pub mod Touches
 pub mod Loop
 pub mod Counting

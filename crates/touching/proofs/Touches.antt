@@ -1,27 +1,26 @@
 -- What a touch leaves, and the bytes laid over the page.
-use mathlib.Core.Path.{_≡_, refl, sym, ap, _∙_}
+use mathlib.Core.Path.{_≡_, refl, ap, _∙_}
 use mathlib.Core.Bool.{Bool, true, false, cond}
 use mathlib.Core.List.{List, [], _∷_, _++_}
-use mathlib.Core.Logic.{_⊎_, inl, inr, ⊎-elim}
-use Prim.Native.Nat.{ℕ, zero, suc, _+_, _*_, _-_, _/_, _%_, _≤_, _<_, min, max}
+use mathlib.Core.Logic.{_⊎_, ⊎-elim}
+use Prim.Native.Nat.{ℕ, suc, _+_, _*_, _-_, _%_, _≤_, _<_, min, max}
 use native.Mathlib.Nat.{mul-le-mul-right, suc-mul}
 use native.Mathlib.Numerals.{add-one}
 use native.Mathlib.Omega.{arith}
-use lib.Dec.{ltb}
-use lib.ListN.{length, take, drop, getD, set, length-set, length-append}
+use lib.ListN.{length, take, drop, set, length-set}
 use lib.Seq.{take-suc, take-set-le, getD-set-same}
-use borrow.Author.Tests.{lt-ltb, ltb-true, ltb-false}
+use borrow.Author.Tests.{ltb-true, ltb-false}
 use Rattle.rules.specs.Bytes.{part, laid, tabulate}
 use Rattle.rules.specs.Layout.{entriesAt}
-use Rattle.rules.specs.View.{placeOf, has, noEntry, logicals, ownPages, ownAddress}
+use Rattle.rules.specs.View.{placeOf, has, ownPages}
 use Rattle.rules.specs.Session.{Held, withPage, firstCopy, touched, touching, laidOnPage}
 use Rattle.rules.specs.declared.Setting.{Setting}
 use Rattle.rules.specs.declared.Entry.{Entry}
 use Rattle.rules.specs.declared.State.{State}
 use Rattle.rules.proofs.Bytes.{length-tabulate, length-laid, length-part}
 use Rattle.rules.proofs.Index.{either, place-snoc, place-within, entries-laid}
-use Rattle.touching.specs.Pages.{Ready}
-use Rattle.touching.proofs.Copies.{own-length, room-new}
+use Rattle.touching.specs.Pages.{Ready, Shares, Within, keptByte, over}
+use Rattle.touching.proofs.Copies.{own-length, room-new, first-copy, touching-grows, touch-own}
 
 -- What a touch of page a leaves.
 pub record Touched (h : List ℕ) (at entries : ℕ) (index : List Entry) (st : State) (a : ℕ) (after : Held) : Type 0 where
@@ -92,15 +91,6 @@ module _ {h : List ℕ} {s : Setting} {at entries : ℕ} {index : List Entry} {s
   leaves e = rw e touch-leaves
 
 -- The page's own place lies in the history.
-pub touching-grows : (own pages : List ℕ) → length own ≤ length (touching own pages)
-unfolding touching
-touching-grows own [] = omega arith
-touching-grows own (a ∷ pages) =
-    ⊎-elim
-    (λ (t : has own a ≡ true). rw t (touching-grows own pages))
-    (λ (t : has own a ≡ false). rw t (omega (arith, touching-grows (own ++ (a ∷ [])) pages, length-append own (a ∷ []))))
-    (either (has own a))
-
 module _ {h : List ℕ} {s : Setting} {at entries : ℕ} {index : List Entry} {st : State} {a : ℕ} {pages : List ℕ} {after : Held}
     (w : Ready h s at entries index st (a ∷ pages)) (z : Touched h at entries index st a after) where
   pub still-touches : touching (ownPages (after .session)) pages ≡ touching (ownPages st) (a ∷ pages)
@@ -116,39 +106,42 @@ module _ {h : List ℕ} {s : Setting} {at entries : ℕ} {index : List Entry} {s
       let m : suc place * s .page ≤ length (touching (ownPages st) (a ∷ pages)) * s .page = mul-le-mul-right (s .page) k in
       omega (arith, w .room, z .end, suc-mul place (s .page))
 
--- The bytes that fall into the page.
-pub record Over (first last offset a n p : ℕ) : Type 0 where
-  pub from-offset : offset ≤ first
-  pub from-page : a ≤ first
-  pub ordered : first ≤ last
-  pub in-bytes : last ≤ offset + n
-  pub in-page : last ≤ a + p
+-- ---- The bytes that fall into the page
 
-pub over : {first last : ℕ} (offset a n p : ℕ) → first ≡ max offset a → last ≡ min (offset + n) (a + p) → a < offset + n → offset < a + p → Over first last offset a n p
-over offset a n p e f l k = record { from-offset = omega arith; from-page = omega arith; ordered = omega arith; in-bytes = omega arith; in-page = omega arith }
+between : (last first offset : ℕ) → offset ≤ first → last - offset - (first - offset) ≡ last - first
+between last first offset l = omega arith
 
-pub over-fits : {first last offset a n p : ℕ} → Over first last offset a n p → (q room : ℕ) → q + p ≤ room → q + (first - a) + (last - offset - (first - offset)) ≤ room
-over-fits w q room l =
-    let h1 = w .from-offset in
-    let h2 = w .from-page in
-    let h3 = w .ordered in
-    let h4 = w .in-page in
-    omega arith
+pub over-run : {p a offset skip from end : ℕ} (h : List ℕ) (to : ℕ) (bytes : List ℕ) → Within p a offset (length bytes) skip from end
+    → laid h (to + skip) (take (end - from) (drop from bytes)) ≡ over h to p a offset bytes
+unfolding over
+over-run {p} {a} {offset} {skip} {from} {end} h to bytes w =
+    let d : end - from ≡ min (offset + length bytes) (a + p) - max offset a =
+    rw (w .ends, w .starts) (between (min (offset + length bytes) (a + p)) (max offset a) offset (omega arith)) in
+    rw (d, w .skips, w .starts)
 
-pub over-length : {first last offset a p : ℕ} (bytes : List ℕ) → Over first last offset a (length bytes) p
-    → length (take (last - offset - (first - offset)) (drop (first - offset) bytes)) ≡ last - offset - (first - offset)
-over-length {first} {last} {offset} bytes w =
-    let h1 = w .from-offset in
-    let h3 = w .ordered in
-    let h4 = w .in-bytes in
-    length-part bytes (first - offset) (last - offset - (first - offset)) (omega arith)
+pub run-long : {p a offset skip from end : ℕ} (bytes : List ℕ) → Within p a offset (length bytes) skip from end
+    → skip + length (take (end - from) (drop from bytes)) ≡ skip + (end - from)
+run-long {skip = skip} {from = from} {end = end} bytes w = rw (length-part bytes from (end - from) (omega (arith, w .ordered, w .in-bytes)))
 
-pub laid-on : (s : Setting) (offset : ℕ) (bytes : List ℕ) (a : ℕ) (after : Held) {x1 x2 : List ℕ} {t : State} {place first last : ℕ}
-    → _≡_ {A = Held} (record { history = x1; session = t }) after → place ≡ placeOf a (ownPages t)
-    → first ≡ max offset a → last ≡ min (offset + length bytes) (a + s .page) → offset ≤ first
-    → x2 ≡ laid x1 (t .end + place * s .page + (first - a)) (take (last - offset - (first - offset)) (drop (first - offset) bytes))
-    → _≡_ {A = Held} (record { history = x2; session = t }) (laidOnPage s offset bytes a after)
-unfolding laidOnPage
-laid-on s offset bytes a after {x1} {x2} {t} {place} {first} {last} e ep ef el l q =
-    let d : last - offset - (first - offset) ≡ last - first = omega arith in
-    rw (← e, q, d, ep, ef, el)
+pub over-fits : {p a offset : ℕ} (bytes : List ℕ) → Shares p a offset (length bytes) → (to room : ℕ) → to + p ≤ room
+    → to + (max offset a - a) + length (part bytes (max offset a - offset) (min (offset + length bytes) (a + p) - max offset a)) ≤ room
+over-fits {p} {a} {offset} bytes v to room l =
+    let i : max offset a - offset + (min (offset + length bytes) (a + p) - max offset a) ≤ length bytes = omega (arith, v .below, v .above) in
+    rw (length-part bytes (max offset a - offset) (min (offset + length bytes) (a + p) - max offset a) i) (omega (arith, v .below, v .above))
+
+module _ {h : List ℕ} {s : Setting} {at entries : ℕ} {index : List Entry} {st : State} {a : ℕ} {pages : List ℕ} (w : Ready h s at entries index st (a ∷ pages)) (o : List ℕ) (offset : ℕ) (bytes : List ℕ) where
+  pub own-laid : {place : ℕ} {x : List ℕ} → place ≡ placeOf a (ownPages st) → place < st .n → x ≡ over h (st .end + place * s .page) (s .page) a offset bytes
+      → _≡_ {A = Held} (record { history = x; session = st }) (laidOnPage s offset bytes a (touched o s index a (record { history = h; session = st })))
+  unfolding over laidOnPage
+  own-laid e l q = rw (← touch-own w o e l, q, e)
+
+  new-place : has (ownPages st) a ≡ false → placeOf a (ownPages (withPage st a)) ≡ st .n
+  new-place t =
+      rw (own-more w o (room-new w t .0))
+      (place-snoc a (ownPages st) ∙ omega (arith, own-n w o, place-within a (ownPages st), ltb-false (placeOf a (ownPages st)) (length (ownPages st)) t))
+
+  pub new-laid : {x : List ℕ} → a % s .page ≡ 0 → has (ownPages st) a ≡ false
+      → x ≡ over (laid h (st .end + st .n * s .page) (tabulate (s .page) (keptByte o h index a (st .size)))) (st .end + st .n * s .page) (s .page) a offset bytes
+      → _≡_ {A = Held} (record { history = x; session = withPage st a }) (laidOnPage s offset bytes a (touched o s index a (record { history = h; session = st })))
+  unfolding over laidOnPage
+  new-laid m t q = rw (fresh w o t, q, first-copy o s index a (record { history = h; session = st }) m t, new-place t)

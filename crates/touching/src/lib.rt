@@ -1,21 +1,17 @@
-// The pages of a write: each is copied behind the session's others at its first touch, and the bytes are laid over it.
+// The pages of a write: the bytes are laid over them, and what is left of a page is copied with them at its first touch.
 use rules::Setting;
 use rules::State;
 ghost use mathlib.Core.Path.{_≡_};
-ghost use mathlib.Core.Bool.{cond};
-ghost use mathlib.Core.List.{[], _∷_};
 ghost use Prim.Native.Nat.{_+_, _-_, _*_, _%_, _≤_, _<_, min, max};
-ghost use lib.Dec.{ltb};
 ghost use lib.ListN.{length, take};
 ghost use Rattle.rules.specs.Bytes.{laid, tabulate};
 ghost use Rattle.rules.specs.Layout.{entriesAt};
 ghost use Rattle.rules.specs.View.{logicals, pagesFrom};
-ghost use Rattle.rules.specs.Session.{Held, touched, laidOnPage, writtenPages, mergedCount};
+ghost use Rattle.rules.specs.Session.{Held, writtenPages, mergedCount};
 ghost use Rattle.index.specs.Rising.{Rising};
-ghost use Rattle.view.specs.Seen.{originalByte};
-ghost use Rattle.touching.specs.Pages.{Source, Ready, Counted, pageByte, keptByte};
+ghost use Rattle.touching.specs.Pages.{Source, Ready, Shares, Within, Counted, pageByte, keptByte, over};
 
-// Lays the first n bytes of the page at an address behind the index: of the stored page, else of the original.
+// Lays n bytes of the page at an address, from a place in the page on: of the stored page, else of the original.
 fn put_page(
     history: &mut [u8],
     original: &[u8],
@@ -23,86 +19,65 @@ fn put_page(
     entries: usize,
     to: usize,
     address: usize,
+    from: usize,
     n: usize,
 )
-    requires { ⌜ Source (now history) at entries to n ⌝ }
-    ensures { λ _. ⌜ now (history .exit) ≡ laid (now (history .entry)) to (tabulate n (pageByte (now (original .entry)) (now (history .entry)) (entriesAt (now (history .entry)) at entries) address)) ⌝ }
+    requires { ⌜ (Source (now history) at entries to from n) × (address + from ≤ 33554432) ⌝ }
+    ensures { λ _. ⌜ now (history .exit) ≡ laid (now (history .entry)) to (tabulate n (λ j. pageByte (now (original .entry)) (now (history .entry)) (entriesAt (now (history .entry)) at entries) address (from + j))) ⌝ }
 {
+    // A page that is written over as a whole is not looked up.
+    if n == 0 {
+        return;
+    }
     let place = index::find(history, at, entries, address as u64);
     if place < entries {
         let e = index::entry(history, at, place);
-        numbers::copy_run(history, e.physical as usize, to, n);
+        numbers::copy_run(history, e.physical as usize + from, to, n);
         return;
     }
-    view::put_original(history, to, original, address, n);
+    view::put_original(history, to, original, address + from, n);
 }
 
-// Lays the page at an address, of which the first bytes are kept and the others are zero.
-fn first_copy(
-    history: &mut [u8],
-    original: &[u8],
-    at: usize,
-    entries: usize,
-    page: usize,
-    to: usize,
-    address: usize,
-    keep: usize,
-)
-    requires { ⌜ (Source (now history) at entries to page) × (keep ≤ page) ⌝ }
-    ensures { λ _. ⌜ now (history .exit) ≡ laid (now (history .entry)) to (tabulate page (keptByte (now (original .entry)) (now (history .entry)) (entriesAt (now (history .entry)) at entries) address keep)) ⌝ }
-{
-    put_page(&mut *history, original, at, entries, to, address, keep);
-    numbers::put_zeros(history, to + keep, page - keep);
-}
-
-// How many bytes of a page lie below a size.
-fn keep_of(page: usize, size: usize, address: usize) -> usize
-    ensures { λ r. ⌜ r ≡ min page (size - address) ⌝ }
+// How many of n bytes from an address on lie below a size.
+fn keep_of(n: usize, size: usize, address: usize) -> usize
+    ensures { λ r. ⌜ r ≡ min n (size - address) ⌝ }
 {
     if size <= address {
         return 0;
     }
-    if size - address < page {
+    if size - address < n {
         return size - address;
     }
-    page
+    n
 }
 
-// The session with a page, copied at its first touch.
-fn touch(
-    st: State,
-    original: &[u8],
+// Lays n bytes of a session's page, from a place in the page on: those past the session's size are zero.
+fn put_kept(
     history: &mut [u8],
-    s: Setting,
+    original: &[u8],
     at: usize,
     entries: usize,
-    address: u32,
-) -> State
-    requires { ⌜ (Ready (now history) s at entries (entriesAt (now history) at entries) st (address ∷ [])) × (address % s .page ≡ 0) × (address ≤ 16777216) ⌝ }
-    ensures { λ r. ⌜ _≡_ {A = Held} (record { history = now (history .exit); session = r })
-        (touched (now (original .entry)) s (entriesAt (now (history .entry)) at entries) address (record { history = now (history .entry); session = st })) ⌝ }
+    to: usize,
+    address: usize,
+    size: usize,
+    from: usize,
+    n: usize,
+)
+    requires { ⌜ (Source (now history) at entries to from n) × (address + from ≤ 33554432) ⌝ }
+    ensures { λ _. ⌜ now (history .exit) ≡ laid (now (history .entry)) to (tabulate n (λ j. keptByte (now (original .entry)) (now (history .entry)) (entriesAt (now (history .entry)) at entries) address size (from + j))) ⌝ }
 {
-    let n = st.n as usize;
-    if index::own_place(&st.pages, n, address as u64) < n {
-        return st;
-    }
-    let page = s.page as usize;
-    let to = st.end as usize + n * page;
-    let keep = keep_of(page, st.size as usize, address as usize);
-    first_copy(
+    let keep = keep_of(n, size, address + from);
+    put_page(
         &mut *history,
         original,
         at,
         entries,
-        page,
         to,
-        address as usize,
+        address,
+        from,
         keep,
     );
-    let mut t = st;
-    t.pages[n] = address;
-    t.n = st.n + 1;
-    t
+    numbers::put_zeros(history, to + keep, n - keep);
 }
 
 fn least(a: usize, b: usize) -> usize
@@ -117,38 +92,85 @@ pub fn most(a: usize, b: usize) -> usize
     if a < b { b } else { a }
 }
 
-// One page of a write: it is touched, and the bytes that fall into it are laid over it.
-fn write_page(
-    st: State,
-    original: &[u8],
-    history: &mut [u8],
-    s: Setting,
-    at: usize,
-    entries: usize,
-    offset: usize,
-    bytes: &[u8],
-    address: u32,
-) -> State
-    requires { ⌜ (Ready (now history) s at entries (entriesAt (now history) at entries) st (address ∷ [])) × (address % s .page ≡ 0) ⌝ }
-    requires { ⌜ (address < offset + length (now bytes)) × (offset < address + s .page) × (offset + length (now bytes) ≤ 16777216) ⌝ }
-    ensures { λ r. ⌜ _≡_ {A = Held} (record { history = now (history .exit); session = r })
-        (laidOnPage s offset (now (bytes .entry)) address
-        (touched (now (original .entry)) s (entriesAt (now (history .entry)) at entries) address (record { history = now (history .entry); session = st }))) ⌝ }
-{
-    let t = touch(st, original, &mut *history, s, at, entries, address);
-    let place = index::own_place(&t.pages, t.n as usize, address as u64);
-    let page = s.page as usize;
-    let a = address as usize;
-    let first = most(offset, a);
-    let last = least(offset + bytes.len(), a + page);
-    let to = t.end as usize + place * page + (first - a);
-    let from = first - offset;
-    let end = last - offset;
-    numbers::put_run(history, to, &bytes[from..end]);
-    t
+// The bytes of a write that fall into a page: from the one to the other, behind so many of the page.
+struct Run {
+    skip: usize,
+    from: usize,
+    end: usize,
 }
 
-// A write over m pages from an address on, in rising order.
+// The run of a write of n bytes at an offset.
+fn run_in(page: usize, address: usize, offset: usize, n: usize) -> Run
+    requires { ⌜ Shares page address offset n ⌝ }
+    ensures { λ r. ⌜ Within page address offset n (r .skip) (r .from) (r .end) ⌝ }
+{
+    let first = most(offset, address);
+    let last = least(offset + n, address + page);
+    Run {
+        skip: first - address,
+        from: first - offset,
+        end: last - offset,
+    }
+}
+
+// Lays a write over one of the session's own pages, which stands at `to`.
+fn put_own(history: &mut [u8], to: usize, page: usize, address: usize, offset: usize, bytes: &[u8])
+    requires { ⌜ (Shares page address offset (length (now bytes))) × (to + page ≤ length (now history)) ⌝ }
+    ensures { λ _. ⌜ now (history .exit) ≡ over (now (history .entry)) to page address offset (now (bytes .entry)) ⌝ }
+{
+    let run = run_in(page, address, offset, bytes.len());
+    let from = run.from;
+    let end = run.end;
+    numbers::put_run(history, to + run.skip, &bytes[from..end]);
+}
+
+// Lays a write over the first copy of a page. Only what the write leaves of the copy is stored, so each byte is stored once.
+fn put_new(
+    history: &mut [u8],
+    original: &[u8],
+    at: usize,
+    entries: usize,
+    to: usize,
+    page: usize,
+    address: usize,
+    size: usize,
+    offset: usize,
+    bytes: &[u8],
+)
+    requires { ⌜ (Shares page address offset (length (now bytes))) × (Source (now history) at entries to 0 page) ⌝ }
+    ensures { λ _. ⌜ now (history .exit) ≡ over (laid (now (history .entry)) to (tabulate page (keptByte (now (original .entry)) (now (history .entry)) (entriesAt (now (history .entry)) at entries) address size))) to page address offset (now (bytes .entry)) ⌝ }
+{
+    let run = run_in(page, address, offset, bytes.len());
+    let from = run.from;
+    let end = run.end;
+    let behind = run.skip + (end - from);
+    put_kept(
+        &mut *history,
+        original,
+        at,
+        entries,
+        to,
+        address,
+        size,
+        0,
+        run.skip,
+    );
+    numbers::put_run(&mut *history, to + run.skip, &bytes[from..end]);
+    put_kept(
+        &mut *history,
+        original,
+        at,
+        entries,
+        to + behind,
+        address,
+        size,
+        behind,
+        page - behind,
+    );
+}
+
+// A write over m pages from an address on, in rising order. None of them is one that the write itself touched before, so only
+// the pages that the session had ahead of the write are searched.
 pub fn write_pages(
     st: State,
     original: &[u8],
@@ -167,13 +189,38 @@ pub fn write_pages(
     ensures { λ r. ⌜ _≡_ {A = Held} (record { history = now (history .exit); session = r })
         (writtenPages (now (original .entry)) s (entriesAt (now (history .entry)) at entries) offset (now (bytes .entry)) (pagesFrom (s .page) first m) (record { history = now (history .entry); session = st })) ⌝ }
 {
+    let before = st.n as usize;
     let mut t = st;
     let mut a = first;
     let mut k: usize = 0;
     while k < m {
-        t = write_page(t, original, &mut *history, s, at, entries, offset, bytes, a);
+        let here = a;
         a += step;
         k += 1;
+        let page = s.page as usize;
+        let place = index::own_place(&st.pages, before, here as u64);
+        if place < before {
+            let to = t.end as usize + place * page;
+            put_own(&mut *history, to, page, here as usize, offset, bytes);
+        } else {
+            let n = t.n as usize;
+            let to = t.end as usize + n * page;
+            let size = t.size as usize;
+            put_new(
+                &mut *history,
+                original,
+                at,
+                entries,
+                to,
+                page,
+                here as usize,
+                size,
+                offset,
+                bytes,
+            );
+            t.pages[n] = here;
+            t.n += 1;
+        }
     }
     t
 }

@@ -1,23 +1,35 @@
 -- The pages of a range, checked one by one.
 use mathlib.Core.Path.{_≡_, refl, sym, ap, _∙_}
-use mathlib.Core.Bool.{Bool, true, false, not, _&&_, _||_, and-assoc}
-use mathlib.Core.List.{List, [], _∷_}
+use mathlib.Core.Bool.{Bool, true, false, not, _&&_, and-false, or-true}
+use mathlib.Core.List.{List}
+use mathlib.Core.Logic.{⊎-elim}
 use Prim.Native.Nat.{ℕ, zero, suc, _+_, _*_, _-_, _/_, _%_, _≤_, _<_, max}
-use native.Mathlib.Nat.{add-zero, zero-mul, one-mul, suc-mul, add-mul, mul-le-mul-right, div-add-mod', le-div-iff-mul-le}
-use native.Mathlib.Numerals.{add-one}
+use native.Mathlib.Nat.{add-zero, zero-mul, one-mul, suc-mul, add-mul, mul-le-mul-right, lt-of-mul-lt-mul-right, div-add-mod', le-div-iff-mul-le}
 use native.Mathlib.Omega.{arith}
-use lib.Dec.{leb, ltb, eqb}
+use lib.Dec.{leb, eqb}
 use lib.ListN.{length, take, drop, getD}
-use borrow.Author.Tests.{lt-ltb, le-ltb, leb-true, leb-false}
-use Rattle.rules.specs.Bytes.{part}
+use borrow.Author.Tests.{lt-ltb, le-ltb, ltb-true, leb-true, leb-false}
+use borrow.Author.Count.{below-more}
+use Rattle.rules.specs.Bytes.{numberAt}
 use Rattle.rules.specs.Checksum.{checksum}
-use Rattle.rules.specs.Layout.{entryWidth, entryAt, entriesAt}
-use Rattle.rules.specs.View.{placeOf, has, noEntry, logicals, hasPage, entryOf, pagesFrom, pagesIn, pagesShared}
+use Rattle.rules.specs.Layout.{entryAt}
+use Rattle.rules.specs.View.{placeOf, has, logicals, hasPage, entryOf, pagesFrom, pagesIn, pagesShared}
 use Rattle.rules.specs.Rows.{pageSumWrong, pagesWrong}
 use Rattle.rules.specs.declared.Entry.{Entry}
-use Rattle.rules.proofs.Index.{length-logicals-entries, entry-entries}
+use Rattle.rules.proofs.Index.{length-logicals-entries, entry-entries, logical-entries, place-hit, place-value, either, order}
 use Rattle.view.specs.Seen.{Seen, indexIn, unownedWrong}
+use Rattle.view.specs.Places.{Parted}
 use Rattle.view.specs.declared.View.{View}
+
+-- ---- One entry
+
+pub entry-room : (h : List ℕ) (v : View) → Seen h v → (place : ℕ) {e : Entry} → place < v .entries → e ≡ entryAt h (v .index + 24 * place) → e .physical + v .page ≤ length h
+entry-room h v w place {e} l q = rw (q ∙ sym (entry-entries h (v .index) (v .entries) place l)) (w .stored place l)
+
+pub entry-parts : (h : List ℕ) (p : ℕ) {e f : Entry} {sum : ℕ} → e ≡ f → sum ≡ checksum (take (e .physical + p - e .physical) (drop (e .physical) h))
+    → not (eqb (e .checksum) sum) ≡ pageSumWrong h p f
+unfolding pageSumWrong
+entry-parts h p {e} {f} q g = let z : e .physical + p - e .physical ≡ p = omega arith in rw (g, z, q)
 
 -- ---- One page
 
@@ -34,65 +46,104 @@ module _ (h : List ℕ) (v : View) (a : ℕ) {place : ℕ} (ep : place ≡ place
   entry-there l = rw (← ep) (sym (entry-entries h (v .index) (v .entries) place l))
 
   pub page-room : {e : Entry} → Seen h v → place < v .entries → e ≡ entryAt h (v .index + 24 * place) → e .physical + v .page ≤ length h
-  page-room {e} w l q = rw (q ∙ sym (entry-entries h (v .index) (v .entries) place l)) (w .stored place l)
+  page-room w l q = entry-room h v w place l q
 
-  pub page-parts : {e : Entry} {sum : ℕ} → place < v .entries → e ≡ entryAt h (v .index + 24 * place)
-      → sum ≡ checksum (take (e .physical + v .page - e .physical) (drop (e .physical) h))
-      → not (eqb (e .checksum) sum) ≡ hasPage (indexIn h v) a && pageSumWrong h (v .page) (entryOf (indexIn h v) a)
-  unfolding pageSumWrong
-  page-parts {e} {sum} l q f =
-      let z : e .physical + v .page - e .physical ≡ v .page = omega arith in
-      let g : e ≡ entryOf (indexIn h v) a = q ∙ entry-there l in
-      rw (page-there l, f, z, ← g)
+  pub page-parts : {b : Bool} → place < v .entries → b ≡ pageSumWrong h (v .page) (entryAt h (v .index + 24 * place))
+      → b ≡ hasPage (indexIn h v) a && pageSumWrong h (v .page) (entryOf (indexIn h v) a)
+  page-parts l f = f ∙ rw (page-there l, ← entry-there l)
 
 -- ---- One that is none of the session's own
 
-pub owned-fine : (own h : List ℕ) (v : View) (a : ℕ) {place n : ℕ} → place ≡ placeOf a own → n ≡ length own → place < n → false ≡ unownedWrong own h v a
-unfolding unownedWrong
-owned-fine own h v a e f l = rw (← e, ← f, lt-ltb _ _ l)
+module _ (own h : List ℕ) (v : View) (w : Seen h v) (place : ℕ) (there : place < v .entries) {address : ℕ} (e : address ≡ numberAt 8 h (v .index + 24 * place))
+    {mine n : ℕ} (em : mine ≡ placeOf address own) (en : n ≡ length own) where
+  value : address ≡ getD (logicals (indexIn h v)) place 0
+  value = e ∙ sym (logical-entries h (v .index) (v .entries) place there)
 
-pub unowned-page : (own h : List ℕ) (v : View) (a : ℕ) {place n : ℕ} {b : Bool} → place ≡ placeOf a own → n ≡ length own → n ≤ place
-    → b ≡ hasPage (indexIn h v) a && pageSumWrong h (v .page) (entryOf (indexIn h v) a) → b ≡ unownedWrong own h v a
-unfolding unownedWrong
-unowned-page own h v a e f l g = g ∙ rw (← e, ← f, le-ltb _ _ l)
+  -- The addresses rise, so each stands once.
+  stands : place ≡ placeOf address (logicals (indexIn h v))
+  stands =
+      let l : place < length (logicals (indexIn h v)) = rw (length-logicals-entries h (v .index) (v .entries)) there in
+      sym (place-hit address (logicals (indexIn h v)) place l (sym value) (λ k m q. omega (arith, w .rising k place m l, value)))
+
+  pub owned-fine : mine < n → false ≡ unownedWrong own h v (getD (logicals (indexIn h v)) place 0)
+  unfolding unownedWrong
+  owned-fine l = rw (← value, ← em, ← en, lt-ltb mine n l)
+
+  pub unowned-page : n ≤ mine → {b : Bool} → b ≡ pageSumWrong h (v .page) (entryAt h (v .index + 24 * place))
+      → b ≡ unownedWrong own h v (getD (logicals (indexIn h v)) place 0)
+  unfolding unownedWrong
+  unowned-page l f = page-parts h v address stands there f ∙ rw (← value, ← em, ← en, le-ltb mine n l)
 
 -- ---- Several
 
-wrong-step : (own h : List ℕ) (v : View) (a m : ℕ) → 0 < m
-    → pagesWrong own h (v .page) (indexIn h v) (pagesFrom (v .page) a m) ≡ unownedWrong own h v a || pagesWrong own h (v .page) (indexIn h v) (pagesFrom (v .page) (a + v .page) (m - 1))
-unfolding pagesWrong pagesFrom unownedWrong
-wrong-step own h v a zero l = absurd (omega arith)
-wrong-step own h v a (suc m) l = let e : suc m - 1 ≡ m = omega arith in rw e
+module _ (own h : List ℕ) (v : View) where
+  wrong-one : (a m j : ℕ) → j < m → unownedWrong own h v (a + j * v .page) ≡ true → pagesWrong own h (v .page) (indexIn h v) (pagesFrom (v .page) a m) ≡ true
+  unfolding pagesWrong pagesFrom unownedWrong
+  wrong-one a zero j l e = absurd (omega arith)
+  wrong-one a (suc m) zero l e = let z : a + 0 * v .page ≡ a = rw (zero-mul, add-zero) in rw (rw z at e)
+  wrong-one a (suc m) (suc j) l e =
+      let z : a + suc j * v .page ≡ a + v .page + j * v .page = rw suc-mul (omega arith) in
+      rw (wrong-one (a + v .page) m j (omega arith) (rw z at e)) (or-true (unownedWrong own h v a))
 
--- The first k of m pages from an address on are fine, and the next has an address.
-pub record PagesLeft (own h : List ℕ) (v : View) (first m address k : ℕ) : Type 0 where
-  pub within : k ≤ m
-  pub there : address ≡ first + k * v .page
-  pub left : pagesWrong own h (v .page) (indexIn h v) (pagesFrom (v .page) first m) ≡ pagesWrong own h (v .page) (indexIn h v) (pagesFrom (v .page) address (m - k))
+  wrong-none : (a m : ℕ) → ((j : ℕ) → j < m → unownedWrong own h v (a + j * v .page) ≡ false) → pagesWrong own h (v .page) (indexIn h v) (pagesFrom (v .page) a m) ≡ false
+  unfolding pagesWrong pagesFrom unownedWrong
+  wrong-none a zero f = refl
+  wrong-none a (suc m) f =
+      let z : a + 0 * v .page ≡ a = rw (zero-mul, add-zero) in
+      let y : (j : ℕ) → j < m → unownedWrong own h v (a + v .page + j * v .page) ≡ false =
+      λ j l. let x : a + suc j * v .page ≡ a + v .page + j * v .page = rw suc-mul (omega arith) in rw x at (f (suc j) (omega arith)) in
+      rw (rw z at (f 0 (omega arith)), wrong-none (a + v .page) m y)
 
-pub pages-start : (own h : List ℕ) (v : View) (first m : ℕ) → PagesLeft own h v first m first 0
-pages-start own h v first m = let e : m - 0 ≡ m = omega arith in record { within = omega arith; there = rw (zero-mul, add-zero); left = rw e }
+  missing-fine : (a : ℕ) → hasPage (indexIn h v) a ≡ false → unownedWrong own h v a ≡ false
+  unfolding unownedWrong
+  missing-fine a e = rw e (ap (λ (b : Bool). b && pageSumWrong h (v .page) (entryOf (indexIn h v) a)) (and-false (not (has own a))))
 
-module _ {own h : List ℕ} {v : View} {first m address k : ℕ} (l : PagesLeft own h v first m address k) (more : k < m) where
-  pub pages-room : address + v .page ≤ first + m * v .page
-  pages-room = let q : suc k * v .page ≤ m * v .page = mul-le-mul-right (v .page) more in omega (arith, l .there, suc-mul k (v .page))
+-- Of two multiples the higher is some pages further on.
+apart : (p x y : ℕ) → 0 < p → x % p ≡ 0 → y % p ≡ 0 → x ≤ y → x + (y / p - x / p) * p ≡ y
+apart p x y h f g l =
+    let a : x / p * p ≡ x = omega (arith, div-add-mod' x p) in
+    let b : y / p * p ≡ y = omega (arith, div-add-mod' y p) in
+    let c : x / p ≤ y / p = le-div-iff-mul-le h .1 (omega arith) in
+    let d : x / p + (y / p - x / p) ≡ y / p = omega arith in
+    let e : y / p * p ≡ x / p * p + (y / p - x / p) * p = ap (λ (n : ℕ). n * p) (sym d) ∙ add-mul (x / p) (y / p - x / p) p in
+    omega arith
 
-  module _ {b : Bool} (f : b ≡ unownedWrong own h v address) where
-    step : pagesWrong own h (v .page) (indexIn h v) (pagesFrom (v .page) first m) ≡ b || pagesWrong own h (v .page) (indexIn h v) (pagesFrom (v .page) (address + v .page) (m - k - 1))
-    step = l .left ∙ wrong-step own h v address (m - k) (omega arith) ∙ rw (← f)
+-- The entries of the pages from an address on that stand ahead of a place are fine, the others are still to be checked.
+pub record EntriesLeft (own h : List ℕ) (v : View) (first place : ℕ) : Type 0 where
+  pub fine : (k : ℕ) → k < place → first ≤ getD (logicals (indexIn h v)) k 0 → unownedWrong own h v (getD (logicals (indexIn h v)) k 0) ≡ false
+  pub left : (k : ℕ) → place ≤ k → k < length (logicals (indexIn h v)) → first ≤ getD (logicals (indexIn h v)) k 0
 
-    pub pages-fault : b ≡ true → true ≡ pagesWrong own h (v .page) (indexIn h v) (pagesFrom (v .page) first m)
-    pages-fault g = sym (step ∙ rw g)
+pub entries-start : (own h : List ℕ) (v : View) (first : ℕ) {place : ℕ} → Parted (logicals (indexIn h v)) first place place → EntriesLeft own h v first place
+entries-start own h v first b = record { fine = λ k l m. absurd (omega (arith, b .below k l)); left = b .above }
 
-    pub pages-turn : b ≡ false → PagesLeft own h v first m (address + v .page) (k + 1)
-    pages-turn g =
-        let e : m - k - 1 ≡ m - (k + 1) = omega arith in
-        record { within = omega arith; there = rw (add-one, suc-mul) (omega (arith, l .there)); left = step ∙ rw (g, e) }
+module _ {own h : List ℕ} {v : View} (w : Seen h v) (first m : ℕ) {place last : ℕ} (l : EntriesLeft own h v first place) (b : Parted (logicals (indexIn h v)) (first + m * v .page) last last) where
+  pub last-within : last ≤ v .entries
+  last-within = omega (arith, b .within, length-logicals-entries h (v .index) (v .entries))
 
-pub pages-end : {own h : List ℕ} {v : View} {first m address k : ℕ} → PagesLeft own h v first m address k → m ≤ k
-    → false ≡ pagesWrong own h (v .page) (indexIn h v) (pagesFrom (v .page) first m)
-unfolding pagesWrong pagesFrom
-pages-end {own} {h} {v} {first} {m} {address} {k} l q = let e : m - k ≡ 0 = omega arith in sym (l .left ∙ rw e)
+  module _ (more : place < last) {t : Bool} (f : t ≡ unownedWrong own h v (getD (logicals (indexIn h v)) place 0)) where
+    pub entries-fault : first % v .page ≡ 0 → t ≡ true → true ≡ pagesWrong own h (v .page) (indexIn h v) (pagesFrom (v .page) first m)
+    entries-fault z g =
+        let x = getD (logicals (indexIn h v)) place 0 in
+        let low : first ≤ x = l .left place (omega arith) (omega (arith, b .within)) in
+        let high : x < first + m * v .page = b .below place more in
+        let s : first + (x / v .page - first / v .page) * v .page ≡ x = apart (v .page) first x (omega (arith, w .least)) z (w .multiple place (omega (arith, last-within))) low in
+        let j : x / v .page - first / v .page < m = lt-of-mul-lt-mul-right (v .page) (omega arith) in
+        sym (wrong-one own h v first m (x / v .page - first / v .page) j (rw s (sym f ∙ g)))
+
+    pub entries-turn : t ≡ false → EntriesLeft own h v first (place + 1)
+    entries-turn g = record { fine = below-more _ _ (l .fine) (λ q. sym f ∙ g); left = λ k q r. l .left k (omega arith) r }
+
+  pub entries-end : last ≤ place → false ≡ pagesWrong own h (v .page) (indexIn h v) (pagesFrom (v .page) first m)
+  entries-end q = sym (wrong-none own h v first m (λ j r. ⊎-elim (λ e. there j r e) (missing-fine own h v (first + j * v .page)) (either (hasPage (indexIn h v) (first + j * v .page)))))
+    where
+      there : (j : ℕ) → j < m → hasPage (indexIn h v) (first + j * v .page) ≡ true → unownedWrong own h v (first + j * v .page) ≡ false
+      there j r e =
+          let k = placeOf (first + j * v .page) (logicals (indexIn h v)) in
+          let c : k < length (logicals (indexIn h v)) = ltb-true _ _ e in
+          let y : getD (logicals (indexIn h v)) k 0 ≡ first + j * v .page = place-value _ _ c in
+          let u : suc j * v .page ≤ m * v .page = mul-le-mul-right (v .page) r in
+          let s : k < last = ⊎-elim (λ z. z) (λ z. absurd (omega (arith, b .above k (⊎-elim (λ i. omega arith) (λ i. omega arith) z) c, suc-mul j (v .page), w .least))) (order k last) in
+          rw y at (l .fine k (omega arith) (omega arith))
 
 -- ---- The pages of a range
 

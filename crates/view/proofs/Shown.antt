@@ -1,22 +1,21 @@
 -- The bytes of a view, page by page.
 use mathlib.Core.Path.{_≡_, refl, sym, ap, _∙_}
-use mathlib.Core.Bool.{Bool, true, false, cond}
+use mathlib.Core.Bool.{cond}
 use mathlib.Core.List.{List, [], _∷_, _++_}
-use Prim.Native.Nat.{ℕ, zero, suc, _+_, _*_, _-_, _/_, _%_, _≤_, _<_, min}
-use native.Mathlib.Nat.{add-zero, zero-add, add-assoc, div-add-mod', mod-lt, add-mul-div-right, add-mul-mod-self-right, div-eq-of-lt, mod-eq-of-lt, mul-le-mul-right, suc-mul}
+use Prim.Native.Nat.{ℕ, zero, suc, _+_, _*_, _-_, _/_, _%_, _≤_, _<_}
+use native.Mathlib.Nat.{zero-add, add-assoc, div-add-mod', mod-lt, add-mul-div-right, add-mul-mod-self-right, div-eq-of-lt, mod-eq-of-lt, mul-le-mul-right, suc-mul}
 use native.Mathlib.Omega.{arith}
-use lib.Dec.{ltb}
-use lib.ListN.{length, take, drop, getD, replicate, length-replicate, getD-replicate, List·getD-eq-default}
+use lib.ListN.{length, take, drop, getD, replicate, List·getD-eq-default}
 use borrow.Author.Tests.{lt-ltb, le-ltb}
 use Rattle.rules.specs.Bytes.{byteAt, part, laid, tabulate}
-use Rattle.rules.specs.Layout.{entryAt, entriesAt}
-use Rattle.rules.specs.View.{placeOf, has, noEntry, logicals, hasPage, entryOf, pageOf, revisionByte}
+use Rattle.rules.specs.Layout.{entryAt}
+use Rattle.rules.specs.View.{placeOf, has, logicals, hasPage, entryOf, pageOf, revisionByte}
 use Rattle.rules.specs.declared.Entry.{Entry}
-use Rattle.rules.proofs.Bytes.{laid-then, laid-more, laid-whole, laid-nothing, length-laid, length-part, length-tabulate, tabulate-append, tabulate-same, part-tabulate}
+use Rattle.rules.proofs.Bytes.{laid-then, laid-whole, laid-nothing, length-laid, length-tabulate, tabulate-append, tabulate-same, part-tabulate}
 use Rattle.rules.proofs.Index.{length-logicals-entries}
 use Rattle.view.specs.Seen.{Seen, indexIn, viewByte, shown, originalByte}
 use Rattle.view.specs.declared.View.{View}
-use Rattle.view.proofs.Pages.{page-there, entry-there, page-room}
+use Rattle.view.proofs.Pages.{page-there, entry-there}
 
 -- ---- The original
 
@@ -53,7 +52,7 @@ module _ (o x0 : List ℕ) (to from n : ℕ) where
 -- ---- One page
 
 -- Offsets in one page.
-page-of : (p from j : ℕ) → 0 < p → from % p + j < p → (pageOf p (from + j) ≡ pageOf p from) × ((from + j) % p ≡ from % p + j)
+pub page-of : (p from j : ℕ) → 0 < p → from % p + j < p → (pageOf p (from + j) ≡ pageOf p from) × ((from + j) % p ≡ from % p + j)
 page-of p from j h l =
     let e : from + j ≡ from % p + j + from / p * p = omega (arith, div-add-mod' from p) in
     rw e

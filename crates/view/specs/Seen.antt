@@ -1,4 +1,5 @@
 -- What a view of a history shows, in plain numbers, and what has to hold for it to be read.
+use mathlib.Core.Path.{_≡_}
 use mathlib.Core.Bool.{Bool, cond, not, _&&_}
 use mathlib.Core.List.{List}
 use Prim.Native.Nat.{ℕ, _+_, _*_, _%_, _≤_, _<_}
@@ -41,5 +42,6 @@ pub record Seen (history : List ℕ) (v : View) : Type 0 where
   pub few : v .entries ≤ 4096
   pub room : v .index + entryWidth * v .entries ≤ length history
   pub rising : Rising (logicals (indexIn history v))
+  pub multiple : (k : ℕ) → k < v .entries → getD (logicals (indexIn history v)) k 0 % v .page ≡ 0
   pub stored : (k : ℕ) → k < v .entries → getD (indexIn history v) k noEntry .physical + v .page ≤ length history
   pub owned : v .end + v .own * v .page ≤ length history

@@ -1,13 +1,17 @@
 // The bytes that a revision or a session shows, and whether the stored pages among them are whole. A revision is read as a session
 // that has touched no page.
+use rules::Entry;
 ghost use mathlib.Core.Path.{_≡_};
 ghost use mathlib.Core.Bool.{_&&_};
-ghost use Prim.Native.Nat.{_+_, _*_, _%_, _≤_, min};
-ghost use lib.ListN.{length, take};
+ghost use mathlib.Core.List.{[]};
+ghost use Prim.Native.Nat.{_+_, _*_, _%_, _≤_, _<_, min};
+ghost use lib.ListN.{length, take, getD};
 ghost use Rattle.rules.specs.Bytes.{part, laid, tabulate};
-ghost use Rattle.rules.specs.View.{hasPage, entryOf, pagesFrom, pagesIn, pagesShared};
+ghost use Rattle.rules.specs.Layout.{entryWidth, entryAt};
+ghost use Rattle.rules.specs.View.{logicals, hasPage, entryOf, pagesFrom, pagesIn, pagesShared};
 ghost use Rattle.rules.specs.Rows.{pageSumWrong, pagesWrong};
 ghost use Rattle.view.specs.Seen.{Seen, indexIn, unownedWrong, originalByte, shown};
+ghost use Rattle.view.specs.Places.{Parted, NextEntry};
 
 // Where things stand: the page size, the index of a revision and how many entries it has, and behind an end the pages of a
 // session's own.
@@ -17,6 +21,18 @@ pub struct View {
     pub entries: usize,
     pub end: usize,
     pub own: usize,
+}
+
+// Whether the page of the entry at a place has another checksum than the entry says.
+fn sum_wrong(history: &[u8], v: View, place: usize) -> bool
+    requires { ⌜ (Seen (now history) v) × (place < v .entries) ⌝ }
+    ensures { λ r. ⌜ r ≡ pageSumWrong (now (history .entry)) (v .page) (entryAt (now (history .entry)) (v .index + entryWidth * place)) ⌝ }
+{
+    let index = v.index;
+    let e = index::entry(history, index, place);
+    let start = e.physical as usize;
+    let end = start + v.page;
+    e.checksum != checksum::fletcher32(&history[start..end])
 }
 
 // Whether the index has a page, and the page's checksum is wrong.
@@ -30,37 +46,55 @@ pub fn page_wrong(history: &[u8], v: View, address: u64) -> bool
     if entries <= place {
         return false;
     }
-    let e = index::entry(history, index, place);
-    let start = e.physical as usize;
-    let end = start + v.page;
-    e.checksum != checksum::fletcher32(&history[start..end])
+    sum_wrong(history, v, place)
 }
 
-// The same of a page that is none of the session's own: neither its own pages nor what they replace is checked.
-fn unowned_wrong(history: &[u8], v: View, pages: &[u32], address: u64) -> bool
-    requires { ⌜ (Seen (now history) v) × (v .own ≤ length (now pages)) ⌝ }
-    ensures { λ r. ⌜ r ≡ unownedWrong (take (v .own) (now (pages .entry))) (now (history .entry)) v address ⌝ }
+// The place of the first entry whose address is not below another. The addresses rise, so it is searched by halves.
+fn place_from(history: &[u8], v: View, address: u64) -> usize
+    requires { ⌜ Seen (now history) v ⌝ }
+    ensures { λ r. ⌜ Parted (logicals (indexIn (now (history .entry)) v)) address r r ⌝ }
+{
+    let index = v.index;
+    let mut low = 0;
+    let mut high = v.entries;
+    while low < high {
+        let middle = low + (high - low) / 2;
+        if numbers::get_u64(history, index + 24 * middle) < address {
+            low = middle + 1;
+        } else {
+            high = middle;
+        }
+    }
+    low
+}
+
+// The same of the page of the entry at a place, if it is none of the session's own: neither its own pages nor what they replace is
+// checked.
+fn unowned_wrong(history: &[u8], v: View, pages: &[u32], place: usize) -> bool
+    requires { ⌜ (Seen (now history) v) × (v .own ≤ length (now pages)) × (place < v .entries) ⌝ }
+    ensures { λ r. ⌜ r ≡ unownedWrong (take (v .own) (now (pages .entry))) (now (history .entry)) v (getD (logicals (indexIn (now (history .entry)) v)) place 0) ⌝ }
 {
     let own = v.own;
+    let address = numbers::get_u64(history, v.index + 24 * place);
     if index::own_place(pages, own, address) < own {
         return false;
     }
-    page_wrong(history, v, address)
+    sum_wrong(history, v, place)
 }
 
-// The same of any of m pages from an address on.
+// The same of any of m pages from an address on. The entries of these pages stand together, so no page is searched for.
 fn pages_wrong(history: &[u8], v: View, pages: &[u32], first: u64, m: usize) -> bool
-    requires { ⌜ (Seen (now history) v) × (v .own ≤ length (now pages)) × (first + m * v .page ≤ 33554432) ⌝ }
+    requires { ⌜ (Seen (now history) v) × (v .own ≤ length (now pages)) × (first + m * v .page ≤ 33554432) × (first % v .page ≡ 0) ⌝ }
     ensures { λ r. ⌜ r ≡ pagesWrong (take (v .own) (now (pages .entry))) (now (history .entry)) (v .page) (indexIn (now (history .entry)) v) (pagesFrom (v .page) first m) ⌝ }
 {
-    let mut address = first;
-    let mut k: usize = 0;
-    while k < m {
-        if unowned_wrong(history, v, pages, address) {
+    let end = first + (m * v.page) as u64;
+    let last = place_from(history, v, end);
+    let mut place = place_from(history, v, first);
+    while place < last {
+        if unowned_wrong(history, v, pages, place) {
             return true;
         }
-        address += v.page as u64;
-        k += 1;
+        place += 1;
     }
     false
 }
@@ -134,15 +168,51 @@ fn least(a: usize, b: usize) -> usize
     if a < b { a } else { b }
 }
 
-// Fills a buffer with the bytes that the view shows from an offset on, page by page.
-pub fn put_view(
-    out: &mut [u8],
-    original: &[u8],
-    history: &[u8],
-    v: View,
-    pages: &[u32],
-    from: usize,
-)
+// The entry at a place; past the last, one that stands at the end, where nothing is looked for any more.
+fn next_entry(history: &[u8], v: View, place: usize, end: usize) -> Entry
+    requires { ⌜ Seen (now history) v ⌝ }
+    ensures { λ r. ⌜ NextEntry (now (history .entry)) v place end r ⌝ }
+{
+    if place < v.entries {
+        return index::entry(history, v.index, place);
+    }
+    Entry {
+        logical: end as u64,
+        physical: 0,
+        checksum: 0,
+    }
+}
+
+// Fills a buffer with the bytes that the view shows from an offset on, where the session has touched no page. The index is walked
+// beside the buffer: what lies ahead of the next stored page is one run of the original.
+fn put_revision(out: &mut [u8], original: &[u8], history: &[u8], v: View, from: usize)
+    requires { ⌜ (Seen (now history) v) × (from + length (now out) ≤ 16777216) ⌝ }
+    ensures { λ _. ⌜ now (out .exit) ≡ tabulate (length (now (out .entry))) (shown (now (original .entry)) (now (history .entry)) v [] from) ⌝ }
+{
+    let page = v.page;
+    let n = out.len();
+    let mut place = place_from(history, v, (from / page * page) as u64);
+    let mut done: usize = 0;
+    while done < n {
+        let at = from + done;
+        let e = next_entry(history, v, place, from + n);
+        let next = e.logical as usize;
+        if next <= at {
+            let inside = at - next;
+            let some = least(page - inside, n - done);
+            put_stored(&mut *out, done, history, e.physical as usize + inside, some);
+            done += some;
+            place += 1;
+        } else {
+            let some = least(next - at, n - done);
+            put_original(&mut *out, done, original, at, some);
+            done += some;
+        }
+    }
+}
+
+// The same page by page, where pages of the session's own may stand ahead of the revision's.
+fn put_session(out: &mut [u8], original: &[u8], history: &[u8], v: View, pages: &[u32], from: usize)
     requires { ⌜ (Seen (now history) v) × (v .own ≤ length (now pages)) × (from + length (now out) ≤ 16777216) ⌝ }
     ensures { λ _. ⌜ now (out .exit) ≡ tabulate (length (now (out .entry))) (shown (now (original .entry)) (now (history .entry)) v (take (v .own) (now (pages .entry))) from) ⌝ }
 {
@@ -155,6 +225,25 @@ pub fn put_view(
         put_in_page(&mut *out, done, original, history, v, pages, at, some);
         done += some;
     }
+}
+
+// Fills a buffer with the bytes that the view shows from an offset on.
+pub fn put_view(
+    out: &mut [u8],
+    original: &[u8],
+    history: &[u8],
+    v: View,
+    pages: &[u32],
+    from: usize,
+)
+    requires { ⌜ (Seen (now history) v) × (v .own ≤ length (now pages)) × (from + length (now out) ≤ 16777216) ⌝ }
+    ensures { λ _. ⌜ now (out .exit) ≡ tabulate (length (now (out .entry))) (shown (now (original .entry)) (now (history .entry)) v (take (v .own) (now (pages .entry))) from) ⌝ }
+{
+    if v.own == 0 {
+        put_revision(out, original, history, v, from);
+        return;
+    }
+    put_session(out, original, history, v, pages, from);
 }
 
 // How many pages n bytes from an offset share a byte with.

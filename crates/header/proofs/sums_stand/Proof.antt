@@ -14,14 +14,14 @@ abbrev μ-loop : tie.MeasureT-loop
 loop-holds : tie.Need-loop-holds Inv-loop μ-loop
 loop-holds c = sums-start _ _ _ _ _
 
-add-sum-stands : tie.Need-add-sum-stands Inv-loop μ-loop
-add-sum-stands c = omega (arith, sums-room (c .before .loop .inv) (search needs))
+add-sixteen-stands : tie.Need-add-sixteen-stands Inv-loop μ-loop
+add-sixteen-stands c = omega (arith, sums-room (c .before .loop .inv) (search needs))
 
-sum-stands-requires : tie.Need-sum-stands-requires Inv-loop μ-loop
-sum-stands-requires c κs = omega (arith, sums-room (c .before .loop .inv) (search needs))
+sixteen-stands-requires : tie.Need-sixteen-stands-requires Inv-loop μ-loop
+sixteen-stands-requires c κs = omega (arith, sums-room (c .before .loop .inv) (search needs))
 
 returns : tie.Need-returns Inv-loop μ-loop
-returns c = sums-fault (c .before .before .before .loop .inv) (search needs) (c .before .sum-stands .ensures) (c .if1 .taken)
+returns c = sums-fault (c .before .before .before .loop .inv) (search needs) (c .before .sixteen-stands .ensures) (c .if1 .taken)
 
 add-place : tie.Need-add-place Inv-loop μ-loop
 add-place c = omega (arith, sums-room (c .before .before .before .loop .inv) (search needs))
@@ -33,7 +33,7 @@ loop-less : tie.Need-loop-less Inv-loop μ-loop
 loop-less c = search needs
 
 loop-again : tie.Need-loop-again Inv-loop μ-loop
-loop-again c = sums-turn (c .before .before .before .loop .inv) (search needs) (c .before .sum-stands .ensures) (c .if1 .left)
+loop-again c = sums-turn (c .before .before .before .loop .inv) (search needs) (c .before .sixteen-stands .ensures) (c .if1 .left)
 
 returns-2 : tie.Need-returns-2 Inv-loop μ-loop
 returns-2 c = sums-end (c .before .loop .inv) (search needs)
@@ -45,8 +45,8 @@ sums-stand-spec =
     Inv-loop
     μ-loop
     loop-holds
-    add-sum-stands
-    sum-stands-requires
+    add-sixteen-stands
+    sixteen-stands-requires
     returns
     add-place
     add-i

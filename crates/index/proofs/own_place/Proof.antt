@@ -1,7 +1,7 @@
 use mathlib.Core.Path.{_≡_}
 use Prim.Native.Nat.{ℕ, _-_, _≤_, _<_}
 use native.Mathlib.Omega.{arith}
-use borrow.Author.Count.{below-none, below-more}
+use borrow.Author.Count.{below-more}
 use borrow.Author.Needs.{needs}
 use lib.ListN.{getD}
 use Rattle.index.proofs.Search.{own-hit, own-miss}
@@ -14,8 +14,11 @@ Inv-loop pages n page place₀ place = (place ≤ n) × ((k : ℕ) → k < place
 abbrev μ-loop : tie.MeasureT-loop
 μ-loop pages n page place₀ place = n - place
 
+without-requires : tie.Need-without-requires Inv-loop μ-loop
+without-requires c κs = c .before .pre
+
 loop-holds : tie.Need-loop-holds Inv-loop μ-loop
-loop-holds c = (omega arith, below-none _)
+loop-holds c = (c .without .ensures .0, λ k l. c .without .ensures .1 k (omega arith) l)
 
 mul-if1 : tie.Need-mul-if1 Inv-loop μ-loop
 mul-if1 c = search needs
@@ -24,12 +27,10 @@ shared-slice-read-if1 : tie.Need-shared-slice-read-if1 Inv-loop μ-loop
 shared-slice-read-if1 c = omega arith
 
 cast-if1 : tie.Need-cast-if1 Inv-loop μ-loop
-cast-if1 c = omega (arith, c .shared-slice-known .given (c .before .before .loop .place))
+cast-if1 c = omega (arith, c .before .before .before .before .shared-slice-known .given (c .before .before .loop .place))
 
 returns : tie.Need-returns Inv-loop μ-loop
-returns c =
-    let g = c .before .before in
-    (own-hit _ _ (g .before .before .pre) _ _ (g .loop-test .taken) (g .before .loop .inv .1) (c .if1 .taken), omega arith)
+returns c = (own-hit _ _ (c .before .before .before .before .before .before .pre) _ _ (c .before .before .loop-test .taken) (c .before .before .before .loop .inv .1) (c .if1 .taken), omega arith)
 
 add-place : tie.Need-add-place Inv-loop μ-loop
 add-place c = omega arith
@@ -41,7 +42,7 @@ loop-again : tie.Need-loop-again Inv-loop μ-loop
 loop-again c = (omega arith, below-more _ _ (c .before .before .before .loop .inv .1) (c .if1 .left))
 
 returns-2 : tie.Need-returns-2 Inv-loop μ-loop
-returns-2 c = (own-miss _ _ (c .before .before .pre) _ _ (c .loop-test .left) (c .before .loop .inv .1), omega arith)
+returns-2 c = (own-miss _ _ (c .before .before .before .before .pre) _ _ (c .loop-test .left) (c .before .loop .inv .1), omega arith)
 
 pub own-place-spec : {M : Type 1} → statement M
 own-place-spec =
@@ -49,6 +50,7 @@ own-place-spec =
     (tie.spec
     Inv-loop
     μ-loop
+    without-requires
     loop-holds
     mul-if1
     shared-slice-read-if1

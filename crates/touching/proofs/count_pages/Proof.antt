@@ -1,10 +1,10 @@
-use mathlib.Core.Path.{refl}
 use Prim.Native.Nat.{_-_}
 use native.Mathlib.Omega.{arith}
 use lib.ListN.{take}
 use lib.Seq.{length-take-le}
 use Rattle.rules.specs.Layout.{entriesAt}
-use Rattle.touching.proofs.Counting.{Counting, counting-start, counting-own, counting-over, counting-new, counted-past, counted-end, own-there, own-missing, index-has, index-lacks, counting-room}
+use Rattle.touching.proofs.Counting.{Counting, counting-start, counting-own, counting-over, counting-new, counted-past, counted-end, index-has, index-lacks, counting-room}
+use Rattle.touching.proofs.Range.{own-there, own-missing}
 use borrow.Author.Needs.{needs}
 use Rattle.touching.proofs.count_pages.Statement.{statement}
 use Rattle.touching.proofs.count_pages.Tie as tie

@@ -1,76 +1,34 @@
-use Prim.Native.Nat.{_+_, _-_}
-use native.Mathlib.Omega.{arith}
-use lib.ListN.{take, length}
-use mathlib.Core.Path.{_≡_, ap, _∙_}
-use Rattle.rules.specs.Bytes.{laid}
-use Rattle.view.specs.Seen.{shown}
-use Rattle.view.proofs.Shown.{ShownSoFar, shown-start, shown-length, shown-turn, shown-end, some-fits, shown-further}
+use mathlib.Core.Path.{_∙_}
+use Rattle.view.proofs.Walk.{untouched}
 use borrow.Author.Needs.{needs}
 use Rattle.view.proofs.put_view.Statement.{statement}
 use Rattle.view.proofs.put_view.Tie as tie
 
-abbrev Inv-loop : tie.InvT-loop
-Inv-loop out₀ original history v pages from page n done₀ out done = (n ≡ length out₀) × ShownSoFar (shown original history v (take (v .own) pages) from) out₀ out done
+put-revision-requires : tie.Need-put-revision-requires
+put-revision-requires c κs = search needs
 
-abbrev μ-loop : tie.MeasureT-loop
-μ-loop out₀ original history v pages from page n done₀ out done = n - done
+same-length : tie.Need-same-length
+same-length c = search needs
 
-loop-holds : tie.Need-loop-holds Inv-loop μ-loop
-loop-holds c = (search needs, shown-start _ _)
+returns : tie.Need-returns
+returns c = c .before .before .put-revision .ensures ∙ untouched _ _ (c .before .before .before .before .before .before .before .before .before .before .args .v) (c .before .before .before .before .before .before .before .before .before .before .args .pages .now) (c .before .before .before .before .before .before .before .before .before .before .args .from) _ (c .before .before .before .before .if1 .taken)
 
-add-at : tie.Need-add-at Inv-loop μ-loop
-add-at c = search needs
+put-session-requires : tie.Need-put-session-requires
+put-session-requires c κs = search needs
 
-rem-least : tie.Need-rem-least Inv-loop μ-loop
-rem-least c = search needs
+same-length-2 : tie.Need-same-length-2
+same-length-2 c = search needs
 
-sub-least : tie.Need-sub-least Inv-loop μ-loop
-sub-least c = omega (arith, some-fits (c .before .before .before .before .before .before .args .v .page) (c .before .before .before .before .before .before .args .from + c .before .loop .done) (omega (arith, c .before .before .before .before .before .before .pre .0 .least)))
-
-sub-least-2 : tie.Need-sub-least-2 Inv-loop μ-loop
-sub-least-2 c = search needs
-
-least-requires : tie.Need-least-requires Inv-loop μ-loop
-least-requires c κs = search needs
-
-put-in-page-requires : tie.Need-put-in-page-requires Inv-loop μ-loop
-put-in-page-requires c κs =
-    let l = some-fits (c .before .before .before .before .before .before .before .before .args .v .page) (c .before .before .before .before .before .before .before .before .args .from + c .before .before .before .loop .done) (omega (arith, c .before .before .before .before .before .before .before .before .pre .0 .least)) in
-    let m = shown-length (c .before .before .before .loop .inv .1) in
-    (c .before .before .before .before .before .before .before .before .pre .0, c .before .before .before .before .before .before .before .before .pre .1, omega arith, omega arith)
-
-add-done : tie.Need-add-done Inv-loop μ-loop
-add-done c = omega (arith, shown-length (c .before .before .before .before .before .before .loop .inv .1))
-
-loop-less : tie.Need-loop-less Inv-loop μ-loop
-loop-less c =
-    let l = some-fits (c .before .before .before .before .before .before .before .before .before .before .before .args .v .page) (c .before .before .before .before .before .before .before .before .before .before .before .args .from + c .before .before .before .before .before .before .loop .done) (omega (arith, c .before .before .before .before .before .before .before .before .before .before .before .pre .0 .least)) in
-    omega arith
-
-loop-again : tie.Need-loop-again Inv-loop μ-loop
-loop-again c = (c .before .before .before .before .before .before .loop .inv .0, shown-turn (c .before .before .before .before .before .before .loop .inv .1) _ (omega arith) (c .before .before .put-in-page .ensures ∙ ap (laid _ _) (shown-further _ _ _ _ (c .before .before .before .before .before .before .before .before .before .before .before .args .from) (c .before .before .before .before .before .before .loop .done) _)))
-
-same-length : tie.Need-same-length Inv-loop μ-loop
-same-length c = shown-length (c .before .loop .inv .1)
-
-returns : tie.Need-returns Inv-loop μ-loop
-returns c = shown-end (c .before .loop .inv .1) (search needs)
+returns-2 : tie.Need-returns-2
+returns-2 c = search needs
 
 pub put-view-spec : {M : Type 1} → statement M
 put-view-spec =
     tie.close
     (tie.spec
-    Inv-loop
-    μ-loop
-    loop-holds
-    add-at
-    rem-least
-    sub-least
-    sub-least-2
-    least-requires
-    put-in-page-requires
-    add-done
-    loop-less
-    loop-again
+    put-revision-requires
     same-length
-    returns)
+    returns
+    put-session-requires
+    same-length-2
+    returns-2)

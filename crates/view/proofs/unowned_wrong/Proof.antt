@@ -1,4 +1,3 @@
-use native.Mathlib.Omega.{arith}
 use mathlib.Core.Path.{sym}
 use lib.Seq.{length-take-le}
 use Rattle.view.proofs.Pages.{owned-fine, unowned-page}
@@ -6,17 +5,35 @@ use borrow.Author.Needs.{needs}
 use Rattle.view.proofs.unowned_wrong.Statement.{statement}
 use Rattle.view.proofs.unowned_wrong.Tie as tie
 
+mul-get-u64 : tie.Need-mul-get-u64
+mul-get-u64 c = search needs
+
+add-get-u64 : tie.Need-add-get-u64
+add-get-u64 c = search needs
+
+get-u64-requires : tie.Need-get-u64-requires
+get-u64-requires c κs = search needs
+
 own-place-requires : tie.Need-own-place-requires
 own-place-requires c κs = search needs
 
 returns : tie.Need-returns
-returns c = owned-fine _ _ (c .before .before .before .before .args .v) _ (c .before .own-place .ensures .0) (sym (length-take-le _ _ (c .before .before .before .before .pre .1))) (search needs)
+returns c = owned-fine _ _ (c .before .before .before .before .before .before .args .v) (c .before .before .before .before .before .before .pre .0) (c .before .before .before .before .before .before .args .place) (c .before .before .before .before .before .before .pre .2) (c .before .before .get-u64 .ensures) (c .before .own-place .ensures .0) (sym (length-take-le _ _ (c .before .before .before .before .before .before .pre .1))) (search needs)
 
-page-wrong-requires : tie.Need-page-wrong-requires
-page-wrong-requires c κs = search needs
+sum-wrong-requires : tie.Need-sum-wrong-requires
+sum-wrong-requires c κs = search needs
 
 returns-2 : tie.Need-returns-2
-returns-2 c = unowned-page _ _ (c .before .before .before .before .before .args .v) _ (c .before .before .own-place .ensures .0) (sym (length-take-le _ _ (c .before .before .before .before .before .pre .1))) (search needs) (c .page-wrong .ensures)
+returns-2 c = unowned-page _ _ (c .before .before .before .before .before .before .before .args .v) (c .before .before .before .before .before .before .before .pre .0) (c .before .before .before .before .before .before .before .args .place) (c .before .before .before .before .before .before .before .pre .2) (c .before .before .before .get-u64 .ensures) (c .before .before .own-place .ensures .0) (sym (length-take-le _ _ (c .before .before .before .before .before .before .before .pre .1))) (search needs) (c .sum-wrong .ensures)
 
 pub unowned-wrong-spec : {M : Type 1} → statement M
-unowned-wrong-spec = tie.close (tie.spec own-place-requires returns page-wrong-requires returns-2)
+unowned-wrong-spec =
+    tie.close
+    (tie.spec
+    mul-get-u64
+    add-get-u64
+    get-u64-requires
+    own-place-requires
+    returns
+    sum-wrong-requires
+    returns-2)

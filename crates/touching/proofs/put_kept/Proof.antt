@@ -1,0 +1,42 @@
+use native.Mathlib.Omega.{arith}
+use Rattle.touching.proofs.Copies.{source-less, copied}
+use borrow.Author.Needs.{needs}
+use Rattle.touching.proofs.put_kept.Statement.{statement}
+use Rattle.touching.proofs.put_kept.Tie as tie
+
+add-keep-of : tie.Need-add-keep-of
+add-keep-of c = search needs
+
+keep-of-requires : tie.Need-keep-of-requires
+keep-of-requires c κs = search needs
+
+put-page-requires : tie.Need-put-page-requires
+put-page-requires c κs = (source-less _ (c .before .before .before .before .pre .0) (omega (arith, c .before .keep-of .ensures)), c .before .before .before .before .pre .1)
+
+add-put-zeros : tie.Need-add-put-zeros
+add-put-zeros c = search needs
+
+sub-put-zeros : tie.Need-sub-put-zeros
+sub-put-zeros c = search needs
+
+put-zeros-requires : tie.Need-put-zeros-requires
+put-zeros-requires c κs = search needs
+
+same-length : tie.Need-same-length
+same-length c = search needs
+
+returns : tie.Need-returns
+returns c = copied (c .before .before .before .before .before .before .before .before .before .before .before .args .original .now) _ _ (c .before .before .before .before .before .before .before .before .before .before .before .args .address) (c .before .before .before .before .before .before .before .before .before .before .before .args .size) (c .before .before .before .before .before .before .before .before .before .before .before .args .from) (c .before .before .before .before .before .before .before .before .before .before .before .args .n) (c .before .before .before .before .before .before .before .before .keep-of .ensures) (c .before .before .before .before .before .before .before .before .before .before .before .args .to) _ (c .before .before .before .before .before .before .before .before .before .before .before .pre .0 .room) (c .before .before .before .before .before .before .put-page .ensures) (c .before .before .put-zeros .ensures)
+
+pub put-kept-spec : {M : Type 1} → statement M
+put-kept-spec =
+    tie.close
+    (tie.spec
+    add-keep-of
+    keep-of-requires
+    put-page-requires
+    add-put-zeros
+    sub-put-zeros
+    put-zeros-requires
+    same-length
+    returns)
