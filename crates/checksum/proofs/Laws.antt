@@ -3,7 +3,7 @@ use mathlib.Core.Path.{_≡_, refl, sym, ap, _∙_}
 use mathlib.Core.List.{List, [], _∷_, _++_}
 use Prim.Native.Nat.{ℕ, zero, suc, _+_, _*_, _-_, _/_, _%_, _^_, _≤_, _<_}
 use native.Mathlib.Numerals.{add-one}
-use native.Mathlib.Nat.{zero-add, add-zero, add-assoc, mod-eq-of-lt, add-mul-mod-self-left}
+use native.Mathlib.Nat.{zero-add, add-zero, add-assoc, suc-mul, mul-le-mul-left, mod-eq-of-lt, add-mul-mod-self-left}
 use native.Mathlib.Omega.{arith}
 use lib.Bits.{bitOr, or-shifted}
 use lib.ListN.{length, drop, getD, length-drop, take-append-drop, drop-of-length-le}
@@ -12,12 +12,15 @@ use Rattle.rules.specs.Bytes.{part}
 use Rattle.rules.specs.Checksum.{words, total, runningTotals, folded, checksum}
 use Rattle.rules.proofs.Bytes.{length-part}
 use Rattle.rules.proofs.Checksum.{checksum-less}
-use Rattle.checksum.specs.Passing.{lowWords, lowWordAt, firstTotal, secondTotal, ordered, Sofar}
+use Rattle.checksum.specs.Passing.{lowWords, lowWordAt, firstTotal, secondTotal, ordered, Four, Sofar, Sums, Whole}
 
 -- ---- one step
 
 two-bytes : (s : List ℕ) (i : ℕ) → i + 1 < length s → drop i s ≡ getD s i 0 ∷ getD s (i + 1) 0 ∷ drop (i + 2) s
 two-bytes s i h = drop-cons s i 0 (omega arith) ∙ rw (← add-one i, drop-cons s (i + 1) 0 h, ← add-one (i + 1), add-assoc i 1 1)
+
+part-rest : (s : List ℕ) (i : ℕ) → part s i (length s - i) ≡ drop i s
+part-rest s i = take-all (length s - i) (drop i s) (rw length-drop (omega arith))
 
 module _ (s : List ℕ) (f g : ℕ) where
   -- One word more.
@@ -30,37 +33,25 @@ module _ (s : List ℕ) (f g : ℕ) where
       })
 
   -- Four words more.
-  four-more : (i a b w0 w1 w2 w3 : ℕ) → Sofar s f g i a b → i + 7 < length s
+  pub four-more : (i a b w0 w1 w2 w3 : ℕ) → Sofar s f g i a b → i + 7 < length s
       → w0 ≡ lowWordAt s i → w1 ≡ lowWordAt s (i + 2) → w2 ≡ lowWordAt s (i + 4) → w3 ≡ lowWordAt s (i + 6)
-      → Sofar s f g (i + 8) (a + (w0 + w1 + w2 + w3)) (b + (4 * a + 4 * w0 + 3 * w1 + 2 * w2 + w3))
+      → Sofar s f g (i + 8) (a + w0 + w1 + w2 + w3) (b + (a + w0) + (a + w0 + w1) + (a + w0 + w1 + w2) + (a + w0 + w1 + w2 + w3))
   four-more i a b w0 w1 w2 w3 sofar h e0 e1 e2 e3 =
       let f1 = word-more i a b w0 sofar (omega arith) e0 in
       let f2 = word-more (i + 2) _ _ w1 f1 (omega arith) e1 in
       let f3 = word-more (i + 4) _ _ w2 (rw (add-assoc i 2 2) at f2) (omega arith) e2 in
       let f4 = word-more (i + 6) _ _ w3 (rw (add-assoc i 4 2) at f3) (omega arith) e3 in
-      let eb : b + (a + w0) + (a + w0 + w1) + (a + w0 + w1 + w2) + (a + w0 + w1 + w2 + w3) ≡ b + (4 * a + 4 * w0 + 3 * w1 + 2 * w2 + w3) = omega arith in
-      let ea : a + w0 + w1 + w2 + w3 ≡ a + (w0 + w1 + w2 + w3) = omega arith in
-      rw (eb, ea, add-assoc i 6 2) at f4
+      rw (add-assoc i 6 2) at f4
 
-  -- The four lanes at the start, and a turn of them.
-  pub lanes-start : Sofar s f g 0 (f + 0 + 0 + 0) (g + 4 * (0 + 0 + 0 + 0) - (0 + 2 * 0 + 3 * 0))
-  lanes-start =
-      let ea : f + 0 + 0 + 0 ≡ f = omega arith in
-      let eb : g + 4 * (0 + 0 + 0 + 0) - (0 + 2 * 0 + 3 * 0) ≡ g = omega arith in
-      rw (ea, eb) (record { first-same = refl; second-same = refl })
-
-  pub lanes-turn : (i a0 a1 a2 a3 b0 b1 b2 b3 w0 w1 w2 w3 : ℕ)
-      → Sofar s f g i (a0 + a1 + a2 + a3) (g + 4 * (b0 + b1 + b2 + b3) - (a1 + 2 * a2 + 3 * a3)) → a1 ≤ b1 → a2 ≤ b2 → a3 ≤ b3 → i + 7 < length s
-      → w0 ≡ lowWordAt s i → w1 ≡ lowWordAt s (i + 2) → w2 ≡ lowWordAt s (i + 4) → w3 ≡ lowWordAt s (i + 6)
-      → Sofar s f g (i + 8) ((a0 + w0) + (a1 + w1) + (a2 + w2) + (a3 + w3))
-      (g + 4 * ((b0 + (a0 + w0)) + (b1 + (a1 + w1)) + (b2 + (a2 + w2)) + (b3 + (a3 + w3))) - ((a1 + w1) + 2 * (a2 + w2) + 3 * (a3 + w3)))
-  lanes-turn i a0 a1 a2 a3 b0 b1 b2 b3 w0 w1 w2 w3 sofar h1 h2 h3 h e0 e1 e2 e3 =
-      let a = a0 + a1 + a2 + a3 in
-      let b = g + 4 * (b0 + b1 + b2 + b3) - (a1 + 2 * a2 + 3 * a3) in
-      let ea : a + (w0 + w1 + w2 + w3) ≡ (a0 + w0) + (a1 + w1) + (a2 + w2) + (a3 + w3) = omega arith in
-      let eb : b + (4 * a + 4 * w0 + 3 * w1 + 2 * w2 + w3)
-      ≡ g + 4 * ((b0 + (a0 + w0)) + (b1 + (a1 + w1)) + (b2 + (a2 + w2)) + (b3 + (a3 + w3))) - ((a1 + w1) + 2 * (a2 + w2) + 3 * (a3 + w3)) = omega arith in
-      rw (eb, ea) at (four-more i a b w0 w1 w2 w3 sofar h e0 e1 e2 e3)
+  pub four-passed : (i a b x y : ℕ) → Sofar s f g i a b → i + 7 < length s → Four s i a b x y → Sofar s f g (i + 8) x y
+  four-passed i a b x y sofar h four =
+      let w0 = lowWordAt s i in
+      let w1 = lowWordAt s (i + 2) in
+      let w2 = lowWordAt s (i + 4) in
+      let w3 = lowWordAt s (i + 6) in
+      let more = four-more i a b w0 w1 w2 w3 sofar h refl refl refl refl in
+      let e : b + (a + w0) + (a + w0 + w1) + (a + w0 + w1 + w2) + (a + w0 + w1 + w2 + w3) ≡ y = omega arith in
+      rw (e, ← four .first-more) at more
 
   -- An odd last byte.
   pub byte-more : (i a b w : ℕ) → Sofar s f g i a b → i + 1 ≡ length s → w ≡ getD s i 0 → Sofar s f g (i + 1) (a + w) (b + (a + w))
@@ -79,6 +70,11 @@ module _ (s : List ℕ) (f g : ℕ) where
       let e : drop i s ≡ [] = drop-of-length-le s h in
       (omega (arith, rw e at (sofar .first-same)), omega (arith, rw e at (sofar .second-same)))
 
+  -- Or what is left is summed in one.
+  pub ordered-rest : (i a b r : ℕ) → Sofar s f g i a b → r ≡ ordered (firstTotal a (part s i (length s - i))) (secondTotal a b (part s i (length s - i)))
+      → r ≡ ordered (firstTotal f s) (secondTotal f g s)
+  ordered-rest i a b r sofar e = rw (part-rest s i) at e ∙ rw (sofar .first-same, sofar .second-same)
+
   pub ordered-end : (i a b r : ℕ) → Sofar s f g i a b → length s ≤ i → r ≡ ordered a b → r ≡ ordered (firstTotal f s) (secondTotal f g s)
   ordered-end i a b r sofar h e = let t = at-end i a b sofar h in e ∙ rw (t .0, t .1)
 
@@ -94,6 +90,18 @@ folded-more zero k h = absurd (omega arith)
 folded-more (suc x) k h =
     let e : suc x + 65535 * k ≡ suc (x + 65535 * k) = omega arith in
     rw (e, add-mul-mod-self-left x 65535 k)
+
+folded-small : (x : ℕ) → 0 < x → x < 65536 → x ≡ folded x
+folded-small zero h k = absurd (omega arith)
+folded-small (suc x) h k = omega arith
+
+-- Times 256 the two bytes of a sum change places.
+pub swapped : (x : ℕ) → x < 65536 → x % 256 * 256 + x / 256 ≡ folded (256 * x)
+swapped zero h = refl
+swapped (suc x) h =
+    let y = suc x % 256 * 256 + suc x / 256 in
+    let e : y + 65535 * (suc x / 256) ≡ 256 * suc x = omega arith in
+    folded-small y (omega arith) (omega arith) ∙ sym (folded-more y (suc x / 256) (omega arith)) ∙ ap folded e
 
 -- A shift by sixteen bits and an `or` join two numbers of sixteen bits.
 pub joined : (first second : ℕ) → first < 65536 → second < 65536 → bitOr (second * 65536 % 2 ^ 64) first ≡ second * 65536 + first
@@ -180,25 +188,67 @@ running-append (x ∷ y ∷ xs) ys f h =
     let e : f + (x + y * 256 + total (lowWords xs)) ≡ f + (x + y * 256) + total (lowWords xs) = omega arith in
     rw e (omega (arith, running-append xs ys (f + (x + y * 256)) (omega arith)))
 
+-- A first sum counts once in each running total.
+running-from : (s : List ℕ) (words f g : ℕ) → 2 * words ≡ length s
+    → total (runningTotals (f + g) (lowWords s)) ≡ words * f + total (runningTotals g (lowWords s))
+running-from [] zero f g h = omega arith
+running-from [] (suc k) f g h = absurd (omega arith)
+running-from (x ∷ []) k f g h = absurd (omega arith)
+running-from (x ∷ y ∷ s) zero f g h = absurd (omega arith)
+running-from (x ∷ y ∷ s) (suc k) f g h =
+    rw (suc-mul k f, add-assoc f g (x + y * 256)) (omega (arith, running-from s k f (g + (x + y * 256)) (omega arith)))
+
+cut : (s : List ℕ) (at end : ℕ) → at ≤ end → drop at s ≡ part s at (end - at) ++ drop end s
+cut s at end low =
+    let e : at + (end - at) ≡ end = omega arith in
+    sym (take-append-drop (end - at) (drop at s)) ∙ rw (drop-drop, e)
+
+pub halves : (at long : ℕ) → long % 16 ≡ 0 → 2 * (long / 2) ≡ at + long - at
+halves at long h = omega arith
+
+-- Rows more.
+module _ (s : List ℕ) (f g at end a b words x y : ℕ) (low : at ≤ end) (high : end ≤ length s) (even : 2 * words ≡ end - at) (whole : Whole (part s at (end - at)) x y) where
+  rows-more : Sofar s f g at a b → Sofar s f g end (a + x) (b + (words * a + y))
+  rows-more sofar =
+      let block = part s at (end - at) in
+      let rest = drop end s in
+      let long : length block ≡ end - at = length-part s at (end - at) (omega arith) in
+      let parity : length block % 2 ≡ 0 = omega arith in
+      let d = cut s at end low in
+      let from : total (runningTotals a (lowWords block)) ≡ words * a + total (runningTotals 0 (lowWords block)) =
+      rw add-zero at (running-from block words a 0 (omega arith)) in
+      let e : a + total (lowWords block) ≡ a + x = omega (arith, whole .first-same) in
+      record {
+        first-same = omega (arith, rw d at (sofar .first-same), low-append block rest parity, whole .first-same);
+        second-same = omega (arith, rw d at (sofar .second-same), rw e at (running-append block rest a parity), from, whole .second-same);
+      }
+
+  product-less : f < 65536 → length s ≤ 16777216 → Sums s f g at a b → words * a ≤ words * 2 ^ 39
+  product-less hf hs sums = mul-le-mul-left words (omega arith)
+
+  pub sums-more : f < 65536 → length s ≤ 16777216 → Sums s f g at a b → Sums s f g end (a + x) (b + (words * a + y))
+  sums-more hf hs sums =
+      let long : length (part s at (end - at)) ≡ end - at = length-part s at (end - at) (omega arith) in
+      let product = product-less hf hs sums in
+      record { within = high; small = omega arith; great = omega arith; exact = rows-more (sums .exact) }
+
 -- After `at` bytes the sums, which may have been folded, still lead to the totals' remainders.
 pub record Folding (s : List ℕ) (at first second : ℕ) : Type 0 where
   pub first-same : folded (firstTotal first (drop at s)) ≡ folded (firstTotal 0 s)
   pub second-same : folded (secondTotal first second (drop at s)) ≡ folded (secondTotal 0 0 s)
 
--- A block more, which the lanes pass whole: its number of bytes is a multiple of eight.
-pub block-more : (s : List ℕ) (at end f g i a b x y : ℕ) → Folding s at f g → at ≤ end → end ≤ length s → (end - at) % 8 ≡ 0
-    → Sofar (part s at (end - at)) f g i a b → i % 8 ≡ 0 → length (part s at (end - at)) < i + 8 → x ≡ folded a → y ≡ folded b → Folding s end x y
+-- A block more, which the lanes pass whole: its number of bytes is a multiple of sixteen.
+pub block-more : (s : List ℕ) (at end f g i a b x y : ℕ) → Folding s at f g → at ≤ end → end ≤ length s → (end - at) % 16 ≡ 0
+    → Sofar (part s at (end - at)) f g i a b → i % 16 ≡ 0 → length (part s at (end - at)) < i + 16 → x ≡ folded a → y ≡ folded b → Folding s end x y
 block-more s at end f g i a b x y before low high whole sofar turns past ex ey =
     let block = part s at (end - at) in
     let rest = drop end s in
-    let total-length : at + (end - at) ≡ end = omega arith in
     let long : length block ≡ end - at = length-part s at (end - at) (omega arith) in
     let ended = at-end block f g i a b sofar (omega arith) in
-    let cut : drop at s ≡ block ++ rest = sym (take-append-drop (end - at) (drop at s)) ∙ rw (drop-drop, total-length) in
     let parity : length block % 2 ≡ 0 = omega arith in
-    let first : firstTotal a rest ≡ firstTotal f (drop at s) = rw cut (omega (arith, low-append block rest parity, ended .0)) in
+    let first : firstTotal a rest ≡ firstTotal f (drop at s) = rw (cut s at end low) (omega (arith, low-append block rest parity, ended .0)) in
     let second : secondTotal a b rest ≡ secondTotal f g (drop at s) =
-    rw cut (omega (arith, rw (ended .0) at (running-append block rest f parity), ended .1)) in
+    rw (cut s at end low) (omega (arith, rw (ended .0) at (running-append block rest f parity), ended .1)) in
     rw (ex, ey)
     (record {
       first-same = folded-add a (total (lowWords rest)) ∙ ap folded first ∙ before .first-same;
@@ -206,8 +256,6 @@ block-more s at end f g i a b x y before low high whole sofar turns past ex ey =
     })
 
 -- What is left is the last block.
-pub any-answer : (s : List ℕ) (at f g r : ℕ) → Folding s at f g → at ≤ length s
+pub any-answer : (s : List ℕ) (at f g r : ℕ) → Folding s at f g
     → r ≡ ordered (firstTotal f (part s at (length s - at))) (secondTotal f g (part s at (length s - at))) → (r ≡ checksum s) × (r < 2 ^ 32)
-any-answer s at f g r folding h e =
-    let all : part s at (length s - at) ≡ drop at s = take-all (length s - at) (drop at s) (rw length-drop (omega arith)) in
-    answer s r (rw all at e ∙ rw (folding .first-same, folding .second-same))
+any-answer s at f g r folding e = answer s r (rw (part-rest s at) at e ∙ rw (folding .first-same, folding .second-same))

@@ -1,6 +1,6 @@
 // The numbers, signatures and runs of bytes that a history is made of, read from bytes and laid over them.
 ghost use mathlib.Core.Path.{_≡_};
-ghost use Prim.Native.Nat.{_+_, _^_, _≤_, _<_};
+ghost use Prim.Native.Nat.{_+_, _^_, _≤_, _<_, min, max};
 ghost use lib.ListN.{length, replicate};
 ghost use Rattle.rules.specs.Bytes.{part, numberAt, numberBytes, laid, same};
 
@@ -125,4 +125,18 @@ pub fn put_zeros(bytes: &mut [u8], at: usize, n: usize)
         bytes[at + k] = 0;
         k += 1;
     }
+}
+
+// The lesser of two numbers.
+pub fn least(a: usize, b: usize) -> usize
+    ensures { λ r. ⌜ r ≡ min a b ⌝ }
+{
+    if a < b { a } else { b }
+}
+
+// The greater of two numbers.
+pub fn most(a: usize, b: usize) -> usize
+    ensures { λ r. ⌜ r ≡ max a b ⌝ }
+{
+    if a < b { b } else { a }
 }

@@ -80,18 +80,6 @@ fn put_kept(
     numbers::put_zeros(history, to + keep, n - keep);
 }
 
-fn least(a: usize, b: usize) -> usize
-    ensures { λ r. ⌜ r ≡ min a b ⌝ }
-{
-    if a < b { a } else { b }
-}
-
-pub fn most(a: usize, b: usize) -> usize
-    ensures { λ r. ⌜ r ≡ max a b ⌝ }
-{
-    if a < b { b } else { a }
-}
-
 // The bytes of a write that fall into a page: from the one to the other, behind so many of the page.
 struct Run {
     skip: usize,
@@ -104,8 +92,8 @@ fn run_in(page: usize, address: usize, offset: usize, n: usize) -> Run
     requires { ⌜ Shares page address offset n ⌝ }
     ensures { λ r. ⌜ Within page address offset n (r .skip) (r .from) (r .end) ⌝ }
 {
-    let first = most(offset, address);
-    let last = least(offset + n, address + page);
+    let first = numbers::most(offset, address);
+    let last = numbers::least(offset + n, address + page);
     Run {
         skip: first - address,
         from: first - offset,

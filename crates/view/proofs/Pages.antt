@@ -54,25 +54,33 @@ module _ (h : List ℕ) (v : View) (a : ℕ) {place : ℕ} (ep : place ≡ place
 
 -- ---- One that is none of the session's own
 
-module _ (own h : List ℕ) (v : View) (w : Seen h v) (place : ℕ) (there : place < v .entries) {address : ℕ} (e : address ≡ numberAt 8 h (v .index + 24 * place))
-    {mine n : ℕ} (em : mine ≡ placeOf address own) (en : n ≡ length own) where
-  value : address ≡ getD (logicals (indexIn h v)) place 0
-  value = e ∙ sym (logical-entries h (v .index) (v .entries) place there)
-
+module _ (own h : List ℕ) (v : View) (w : Seen h v) (place : ℕ) (there : place < v .entries) where
   -- The addresses rise, so each stands once.
-  stands : place ≡ placeOf address (logicals (indexIn h v))
+  stands : place ≡ placeOf (getD (logicals (indexIn h v)) place 0) (logicals (indexIn h v))
   stands =
       let l : place < length (logicals (indexIn h v)) = rw (length-logicals-entries h (v .index) (v .entries)) there in
-      sym (place-hit address (logicals (indexIn h v)) place l (sym value) (λ k m q. omega (arith, w .rising k place m l, value)))
+      sym (place-hit _ (logicals (indexIn h v)) place l refl (λ k m q. omega (arith, w .rising k place m l)))
 
-  pub owned-fine : mine < n → false ≡ unownedWrong own h v (getD (logicals (indexIn h v)) place 0)
+  -- A page that is whole is fine, whose ever it is.
+  pub whole-fine : {b : Bool} → b ≡ pageSumWrong h (v .page) (entryAt h (v .index + 24 * place)) → b ≡ false → false ≡ unownedWrong own h v (getD (logicals (indexIn h v)) place 0)
   unfolding unownedWrong
-  owned-fine l = rw (← value, ← em, ← en, lt-ltb mine n l)
+  whole-fine f g =
+      let a = getD (logicals (indexIn h v)) place 0 in
+      let s : pageSumWrong h (v .page) (entryOf (indexIn h v) a) ≡ false = ap (pageSumWrong h (v .page)) (sym (entry-there h v a stands there)) ∙ sym f ∙ g in
+      rw s (sym (and-false (not (has own a) && hasPage (indexIn h v) a)))
 
-  pub unowned-page : n ≤ mine → {b : Bool} → b ≡ pageSumWrong h (v .page) (entryAt h (v .index + 24 * place))
-      → b ≡ unownedWrong own h v (getD (logicals (indexIn h v)) place 0)
-  unfolding unownedWrong
-  unowned-page l f = page-parts h v address stands there f ∙ rw (← value, ← em, ← en, le-ltb mine n l)
+  module _ {address : ℕ} (e : address ≡ numberAt 8 h (v .index + 24 * place)) {mine n : ℕ} (em : mine ≡ placeOf address own) (en : n ≡ length own) where
+    value : address ≡ getD (logicals (indexIn h v)) place 0
+    value = e ∙ sym (logical-entries h (v .index) (v .entries) place there)
+
+    pub owned-fine : mine < n → false ≡ unownedWrong own h v (getD (logicals (indexIn h v)) place 0)
+    unfolding unownedWrong
+    owned-fine l = rw (← value, ← em, ← en, lt-ltb mine n l)
+
+    pub unowned-page : n ≤ mine → {b : Bool} → b ≡ pageSumWrong h (v .page) (entryAt h (v .index + 24 * place))
+        → b ≡ unownedWrong own h v (getD (logicals (indexIn h v)) place 0)
+    unfolding unownedWrong
+    unowned-page l f = page-parts h v _ stands there f ∙ rw (← value, ← em, ← en, le-ltb mine n l)
 
 -- ---- Several
 

@@ -3,16 +3,14 @@ use mathlib.Core.Path.{_≡_, refl, sym, ap, _∙_}
 use mathlib.Core.Bool.{cond}
 use mathlib.Core.List.{List, [], _∷_, _++_}
 use Prim.Native.Nat.{ℕ, zero, suc, _+_, _*_, _-_, _/_, _%_, _≤_, _<_}
-use native.Mathlib.Nat.{zero-add, add-assoc, div-add-mod', mod-lt, add-mul-div-right, add-mul-mod-self-right, div-eq-of-lt, mod-eq-of-lt, mul-le-mul-right, suc-mul}
+use native.Mathlib.Nat.{zero-add, add-assoc, div-add-mod', add-mul-div-right, add-mul-mod-self-right, div-eq-of-lt, mod-eq-of-lt, mul-le-mul-right, suc-mul}
 use native.Mathlib.Omega.{arith}
 use lib.ListN.{length, take, drop, getD, replicate, List·getD-eq-default}
-use borrow.Author.Tests.{lt-ltb, le-ltb}
 use Rattle.rules.specs.Bytes.{byteAt, part, laid, tabulate}
 use Rattle.rules.specs.Layout.{entryAt}
 use Rattle.rules.specs.View.{placeOf, has, logicals, hasPage, entryOf, pageOf, revisionByte}
 use Rattle.rules.specs.declared.Entry.{Entry}
 use Rattle.rules.proofs.Bytes.{laid-then, laid-whole, laid-nothing, length-laid, length-tabulate, tabulate-append, tabulate-same, part-tabulate}
-use Rattle.rules.proofs.Index.{length-logicals-entries}
 use Rattle.view.specs.Seen.{Seen, indexIn, viewByte, shown, originalByte}
 use Rattle.view.specs.declared.View.{View}
 use Rattle.view.proofs.Pages.{page-there, entry-there}
@@ -58,57 +56,24 @@ page-of p from j h l =
     rw e
     (rw (add-mul-div-right (from % p + j) (from / p) h, div-eq-of-lt l, zero-add) refl, rw add-mul-mod-self-right (mod-eq-of-lt l))
 
-pub page-start : (p from : ℕ) → from - from % p ≡ pageOf p from
-page-start p from = omega (arith, div-add-mod' from p)
-
-module _ (o h : List ℕ) (v : View) (own : List ℕ) (from n : ℕ) (w : Seen h v) (fits : from % v .page + n ≤ v .page) where
-  -- In a page of the session's own.
-  pub shown-own : (mine : ℕ) → mine ≡ placeOf (from - from % v .page) own → mine < length own
-      → v .end + mine * v .page + from % v .page + n ≤ length h
-      → part h (v .end + mine * v .page + from % v .page) n ≡ tabulate n (shown o h v own from)
-  unfolding viewByte
-  shown-own mine e l room =
-      let a = sym (page-start (v .page) from) in
-      part-tabulate h _ n room
-      ∙ tabulate-same n _ _
-      (λ j q.
-      let z = page-of (v .page) from j (omega arith) (omega arith) in
-      rw (z .0, z .1, a, ← e, lt-ltb mine (length own) l) (ap (λ (i : ℕ). getD h i 0) (add-assoc (v .end + mine * v .page) (from % v .page) j)))
-
-  -- In no page of the session's own: what the revision shows.
-  unowned : (mine : ℕ) → mine ≡ placeOf (from - from % v .page) own → length own ≤ mine → (j : ℕ) → j < n
-      → shown o h v own from j ≡ cond (hasPage (indexIn h v) (pageOf (v .page) from)) (byteAt h (entryOf (indexIn h v) (pageOf (v .page) from) .physical + (from % v .page + j))) (byteAt o (from + j))
-  unfolding viewByte revisionByte
-  unowned mine e l j q =
-      let a = sym (page-start (v .page) from) in
-      let z = page-of (v .page) from j (omega arith) (omega arith) in
-      rw (z .0, z .1, a, ← e, le-ltb mine (length own) l)
+module _ (o h : List ℕ) (v : View) (from n : ℕ) (w : Seen h v) (fits : from % v .page + n ≤ v .page) where
+  -- What the revision shows.
+  in-page : (j : ℕ) → j < n
+      → shown o h v [] from j ≡ cond (hasPage (indexIn h v) (pageOf (v .page) from)) (byteAt h (entryOf (indexIn h v) (pageOf (v .page) from) .physical + (from % v .page + j))) (byteAt o (from + j))
+  unfolding viewByte revisionByte placeOf
+  in-page j q = let z = page-of (v .page) from j (omega (arith, w .least)) (omega arith) in rw (z .0, z .1)
 
   -- In a page that the index has.
-  pub shown-stored : (mine place : ℕ) {e : Entry} → mine ≡ placeOf (from - from % v .page) own → length own ≤ mine
-      → place ≡ placeOf (from - from % v .page) (logicals (indexIn h v)) → place < v .entries → e ≡ entryAt h (v .index + 24 * place)
+  pub shown-stored : (place : ℕ) {e : Entry} → place ≡ placeOf (pageOf (v .page) from) (logicals (indexIn h v)) → place < v .entries → e ≡ entryAt h (v .index + 24 * place)
       → e .physical + from % v .page + n ≤ length h
-      → part h (e .physical + from % v .page) n ≡ tabulate n (shown o h v own from)
-  shown-stored mine place {e} em lm ep lp q room =
-      let a = page-start (v .page) from in
-      let f : place ≡ placeOf (pageOf (v .page) from) (logicals (indexIn h v)) = rw a at ep in
+      → part h (e .physical + from % v .page) n ≡ tabulate n (shown o h v [] from)
+  shown-stored place {e} f lp q room =
       let g : e ≡ entryOf (indexIn h v) (pageOf (v .page) from) = q ∙ entry-there h v (pageOf (v .page) from) f lp in
       part-tabulate h _ n room
       ∙ tabulate-same n _ _
       (λ j k.
-      sym (unowned mine em lm j k ∙ rw (page-there h v (pageOf (v .page) from) f lp, ← g)
+      sym (in-page j k ∙ rw (page-there h v (pageOf (v .page) from) f lp, ← g)
       (ap (λ (i : ℕ). getD h i 0) (sym (add-assoc (e .physical) (from % v .page) j)))))
-
-  -- In no stored page.
-  pub shown-original : (mine place : ℕ) → mine ≡ placeOf (from - from % v .page) own → length own ≤ mine
-      → place ≡ placeOf (from - from % v .page) (logicals (indexIn h v)) → v .entries ≤ place
-      → tabulate n (originalByte o from) ≡ tabulate n (shown o h v own from)
-  shown-original mine place em lm ep lp =
-      let a = page-start (v .page) from in
-      let f : place ≡ placeOf (pageOf (v .page) from) (logicals (indexIn h v)) = rw a at ep in
-      tabulate-same n _ _
-      (λ j k.
-      sym (unowned mine em lm j k ∙ rw (← f, length-logicals-entries h (v .index) (v .entries), le-ltb place (v .entries) lp)))
 
 -- ---- All of a buffer
 
@@ -142,16 +107,9 @@ module _ {f : ℕ → ℕ} {before now : List ℕ} {done : ℕ} (l : ShownSoFar 
       let q : done ≡ length before = omega (arith, l .within) in
       l .bytes ∙ rw q (laid-whole before (tabulate (length before) f) (length-tabulate (length before) f))
 
--- A page's part is not empty, and ends with the page.
-pub some-fits : (p at : ℕ) → 0 < p → (0 < p - at % p) × (at % p ≤ p)
-some-fits p at h = let l = mod-lt at h in (omega arith, omega arith)
-
 -- A part of a slice that is named by its ends.
 pub stored-run : (x0 h : List ℕ) (to from n : ℕ) {x1 : List ℕ} → x1 ≡ laid x0 to (take (from + n - from) (drop from h)) → x1 ≡ laid x0 to (part h from n)
 stored-run x0 h to from n e = let q : from + n - from ≡ n = omega arith in e ∙ rw q
-
-pub inside-less : (p from : ℕ) → from % p ≤ from
-inside-less p from = omega (arith, div-add-mod' from p)
 
 -- An own page lies in the history.
 pub own-room : {h : List ℕ} {v : View} → Seen h v → (mine : ℕ) → mine < v .own → v .end + mine * v .page + v .page ≤ length h

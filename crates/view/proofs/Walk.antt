@@ -1,12 +1,12 @@
 -- The index walked beside a buffer: where the walk begins, and what each of its steps shows.
-use mathlib.Core.Path.{_≡_, refl, sym, ap, _∙_}
+use mathlib.Core.Path.{_≡_, sym, ap, _∙_}
 use mathlib.Core.List.{List, []}
 use mathlib.Core.Logic.{⊎-elim}
 use Prim.Native.Nat.{ℕ, suc, _+_, _*_, _-_, _/_, _%_, _≤_, _<_, min}
 use native.Mathlib.Nat.{div-add-mod', mod-lt, eq-or-lt-of-le, mul-le-mul-right, lt-of-mul-lt-mul-right, suc-mul, add-zero, zero-add, add-assoc, mul-mod-left}
 use native.Mathlib.Omega.{arith}
 use borrow.Author.Count.{below-more}
-use lib.ListN.{length, take, getD}
+use lib.ListN.{length, getD}
 use Rattle.rules.specs.Bytes.{part, numberAt, laid, tabulate}
 use Rattle.rules.specs.Layout.{entriesAt}
 use Rattle.rules.specs.View.{placeOf, logicals, pageOf, revisionByte}
@@ -112,21 +112,20 @@ module _ (h : List ℕ) (v : View) (w : Seen h v) where
       pub hit-room : x .physical + v .page ≤ length h
       hit-room = entry-room h v w place hit-there (e .there hit-there)
 
-      hit-page : (at % v .page ≡ at - x .logical) × (at - at % v .page ≡ x .logical)
+      hit-page : (pageOf (v .page) at ≡ x .logical) × (at % v .page ≡ at - x .logical)
       hit-page =
           let z : x .logical % v .page ≡ 0 = rw (← next-value hit-there) (multiple place within) in
           let s : x .logical + (at - x .logical) ≡ at = omega arith in
-          let q = page-of (v .page) (x .logical) (at - x .logical) (omega (arith, w .least)) (omega (arith, hit-near)) .1 in
-          let r : at % v .page ≡ at - x .logical = rw s at q ∙ rw (z, zero-add) in
-          (r, rw r (omega arith))
+          let q = page-of (v .page) (x .logical) (at - x .logical) (omega (arith, w .least)) (omega (arith, hit-near)) in
+          let r : at % v .page ≡ at - x .logical = rw s at (q .1) ∙ rw (z, zero-add) in
+          (omega (arith, div-add-mod' at (v .page)), r)
 
       pub hit-bytes : (o : List ℕ) (n : ℕ) → at - x .logical + n ≤ v .page → part h (x .physical + (at - x .logical)) n ≡ tabulate n (shown o h v [] at)
-      unfolding placeOf
       hit-bytes o n l =
-          let r = hit-page .0 in
-          let f : place ≡ placeOf (at - at % v .page) (logicals (indexIn h v)) =
-          sym (place-hit (at - at % v .page) (logicals (indexIn h v)) place within (next-value hit-there ∙ sym (hit-page .1)) (λ k m q. omega (arith, w .rising k place m within, next-value hit-there, hit-page .1))) in
-          rw (← r) (shown-stored o h v [] at n w (omega arith) 0 place refl (omega arith) f hit-there (e .there hit-there) (omega (arith, hit-room)))
+          let r = hit-page .1 in
+          let f : place ≡ placeOf (pageOf (v .page) at) (logicals (indexIn h v)) =
+          sym (place-hit (pageOf (v .page) at) (logicals (indexIn h v)) place within (next-value hit-there ∙ sym (hit-page .0)) (λ k m q. omega (arith, w .rising k place m within, next-value hit-there, hit-page .0))) in
+          rw (← r) (shown-stored o h v at n w (omega arith) place f hit-there (e .there hit-there) (omega (arith, hit-room)))
 
       pub hit-turn : (some : ℕ) → at + some ≡ x .logical + v .page → Ahead (logicals (indexIn h v)) (v .page) (at + some) (place + 1)
       hit-turn some q = record {
@@ -184,7 +183,3 @@ module _ {o h : List ℕ} {v : View} {from : ℕ} {before now : List ℕ} {place
         so-far = shown-turn (l .so-far) some (omega arith) (f ∙ ap (laid now done) (run-bytes h v w (from + done) g e b o some (omega arith) ∙ shown-further o h v [] from done some));
         ahead = λ k. rw (← add-assoc from done some) (run-turn h v w (from + done) g e b some (omega arith));
       }
-
--- A session that has touched no page owns none.
-pub untouched : (o h : List ℕ) (v : View) (pages : List ℕ) (from n : ℕ) → v .own ≡ 0 → tabulate n (shown o h v [] from) ≡ tabulate n (shown o h v (take (v .own) pages) from)
-untouched o h v pages from n e = rw e

@@ -4,14 +4,14 @@ use rules::Entry;
 ghost use mathlib.Core.Path.{_≡_};
 ghost use mathlib.Core.Bool.{_&&_};
 ghost use mathlib.Core.List.{[]};
-ghost use Prim.Native.Nat.{_+_, _*_, _%_, _≤_, _<_, min};
+ghost use Prim.Native.Nat.{_+_, _*_, _%_, _≤_, _<_, min, max};
 ghost use lib.ListN.{length, take, getD};
 ghost use Rattle.rules.specs.Bytes.{part, laid, tabulate};
 ghost use Rattle.rules.specs.Layout.{entryWidth, entryAt};
 ghost use Rattle.rules.specs.View.{logicals, hasPage, entryOf, pagesFrom, pagesIn, pagesShared};
 ghost use Rattle.rules.specs.Rows.{pageSumWrong, pagesWrong};
 ghost use Rattle.view.specs.Seen.{Seen, indexIn, unownedWrong, originalByte, shown};
-ghost use Rattle.view.specs.Places.{Parted, NextEntry};
+ghost use Rattle.view.specs.Places.{Parted, NextEntry, ownOver};
 
 // Where things stand: the page size, the index of a revision and how many entries it has, and behind an end the pages of a
 // session's own.
@@ -68,13 +68,18 @@ fn place_from(history: &[u8], v: View, address: u64) -> usize
     low
 }
 
-// The same of the page of the entry at a place, if it is none of the session's own: neither its own pages nor what they replace is
-// checked.
+// The same of the page of the entry at a place, if it is none of the session's own: neither its own pages nor what they replace
+// counts. A small page is summed sooner than it is looked for among many, and few sums are wrong.
 fn unowned_wrong(history: &[u8], v: View, pages: &[u32], place: usize) -> bool
     requires { ⌜ (Seen (now history) v) × (v .own ≤ length (now pages)) × (place < v .entries) ⌝ }
     ensures { λ r. ⌜ r ≡ unownedWrong (take (v .own) (now (pages .entry))) (now (history .entry)) v (getD (logicals (indexIn (now (history .entry)) v)) place 0) ⌝ }
 {
     let own = v.own;
+    if v.page < own {
+        if !sum_wrong(history, v, place) {
+            return false;
+        }
+    }
     let address = numbers::get_u64(history, v.index + 24 * place);
     if index::own_place(pages, own, address) < own {
         return false;
@@ -128,46 +133,6 @@ fn put_stored(out: &mut [u8], to: usize, history: &[u8], from: usize, n: usize)
     numbers::put_run(out, to, &history[from..end]);
 }
 
-// Lays the n bytes that the view shows from an offset on over a buffer; they lie in one page.
-fn put_in_page(
-    out: &mut [u8],
-    to: usize,
-    original: &[u8],
-    history: &[u8],
-    v: View,
-    pages: &[u32],
-    from: usize,
-    n: usize,
-)
-    requires { ⌜ (Seen (now history) v) × (v .own ≤ length (now pages)) × (to + n ≤ length (now out)) × (from % v .page + n ≤ v .page) ⌝ }
-    ensures { λ _. ⌜ now (out .exit) ≡ laid (now (out .entry)) to (tabulate n (shown (now (original .entry)) (now (history .entry)) v (take (v .own) (now (pages .entry))) from)) ⌝ }
-{
-    let page = v.page;
-    let own = v.own;
-    let inside = from % page;
-    let address = (from - inside) as u64;
-    let mine = index::own_place(pages, own, address);
-    if mine < own {
-        put_stored(out, to, history, v.end + mine * page + inside, n);
-        return;
-    }
-    let index = v.index;
-    let entries = v.entries;
-    let place = index::find(history, index, entries, address);
-    if place < entries {
-        let e = index::entry(history, index, place);
-        put_stored(out, to, history, e.physical as usize + inside, n);
-        return;
-    }
-    put_original(out, to, original, from, n);
-}
-
-fn least(a: usize, b: usize) -> usize
-    ensures { λ r. ⌜ r ≡ min a b ⌝ }
-{
-    if a < b { a } else { b }
-}
-
 // The entry at a place; past the last, one that stands at the end, where nothing is looked for any more.
 fn next_entry(history: &[u8], v: View, place: usize, end: usize) -> Entry
     requires { ⌜ Seen (now history) v ⌝ }
@@ -183,7 +148,7 @@ fn next_entry(history: &[u8], v: View, place: usize, end: usize) -> Entry
     }
 }
 
-// Fills a buffer with the bytes that the view shows from an offset on, where the session has touched no page. The index is walked
+// Fills a buffer with the bytes that the view shows from an offset on, but for the session's own pages. The index is walked
 // beside the buffer: what lies ahead of the next stored page is one run of the original.
 fn put_revision(out: &mut [u8], original: &[u8], history: &[u8], v: View, from: usize)
     requires { ⌜ (Seen (now history) v) × (from + length (now out) ≤ 16777216) ⌝ }
@@ -199,35 +164,43 @@ fn put_revision(out: &mut [u8], original: &[u8], history: &[u8], v: View, from: 
         let next = e.logical as usize;
         if next <= at {
             let inside = at - next;
-            let some = least(page - inside, n - done);
+            let some = numbers::least(page - inside, n - done);
             put_stored(&mut *out, done, history, e.physical as usize + inside, some);
             done += some;
             place += 1;
         } else {
-            let some = least(next - at, n - done);
+            let some = numbers::least(next - at, n - done);
             put_original(&mut *out, done, original, at, some);
             done += some;
         }
     }
 }
 
-// The same page by page, where pages of the session's own may stand ahead of the revision's.
-fn put_session(out: &mut [u8], original: &[u8], history: &[u8], v: View, pages: &[u32], from: usize)
-    requires { ⌜ (Seen (now history) v) × (v .own ≤ length (now pages)) × (from + length (now out) ≤ 16777216) ⌝ }
-    ensures { λ _. ⌜ now (out .exit) ≡ tabulate (length (now (out .entry))) (shown (now (original .entry)) (now (history .entry)) v (take (v .own) (now (pages .entry))) from) ⌝ }
+// Lays a page of the session's own over a buffer that has the bytes from an offset on, as far as the two meet. A page's address is
+// a multiple of the page size; what stands elsewhere is not shown.
+fn put_own(out: &mut [u8], history: &[u8], page: usize, address: usize, stored: usize, from: usize)
+    requires { ⌜ (0 < page) × (stored + page ≤ length (now history)) × (address + page ≤ 8589934592) × (from + length (now out) ≤ 16777216) ⌝ }
+    ensures { λ _. ⌜ now (out .exit) ≡ tabulate (length (now (out .entry))) (ownOver (now (out .entry)) (now (history .entry)) page address stored from) ⌝ }
 {
-    let page = v.page;
-    let n = out.len();
-    let mut done: usize = 0;
-    while done < n {
-        let at = from + done;
-        let some = least(page - at % page, n - done);
-        put_in_page(&mut *out, done, original, history, v, pages, at, some);
-        done += some;
+    let start = numbers::most(address, from);
+    let end = numbers::least(address + page, from + out.len());
+    if end <= start {
+        return;
     }
+    if address % page != 0 {
+        return;
+    }
+    put_stored(
+        out,
+        start - from,
+        history,
+        stored + (start - address),
+        end - start,
+    );
 }
 
-// Fills a buffer with the bytes that the view shows from an offset on.
+// Fills a buffer with the bytes that the view shows from an offset on: the revision's, and over them the session's own pages. The
+// first of them comes last, since it is the one that a search would find.
 pub fn put_view(
     out: &mut [u8],
     original: &[u8],
@@ -239,11 +212,20 @@ pub fn put_view(
     requires { ⌜ (Seen (now history) v) × (v .own ≤ length (now pages)) × (from + length (now out) ≤ 16777216) ⌝ }
     ensures { λ _. ⌜ now (out .exit) ≡ tabulate (length (now (out .entry))) (shown (now (original .entry)) (now (history .entry)) v (take (v .own) (now (pages .entry))) from) ⌝ }
 {
-    if v.own == 0 {
-        put_revision(out, original, history, v, from);
-        return;
+    put_revision(&mut *out, original, history, v, from);
+    let mut mine = v.own;
+    while 0 < mine {
+        mine -= 1;
+        let address = pages[mine] as usize;
+        put_own(
+            &mut *out,
+            history,
+            v.page,
+            address,
+            v.end + mine * v.page,
+            from,
+        );
     }
-    put_session(out, original, history, v, pages, from);
 }
 
 // How many pages n bytes from an offset share a byte with.

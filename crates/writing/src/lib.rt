@@ -111,7 +111,7 @@ fn put_written(
 {
     let page = s.page as usize;
     let n = bytes.len();
-    let size = touching::most(st.size as usize, at + n);
+    let size = numbers::most(st.size as usize, at + n);
     let m = view::pages_in(page, at, n);
     let first = (at / page * page) as u32;
     let mut t = touching::write_pages(

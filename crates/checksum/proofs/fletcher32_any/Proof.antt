@@ -13,6 +13,12 @@ Inv-loop bytes n first₀ second₀ at₀ first second at = (n ≡ length bytes)
 abbrev μ-loop : tie.MeasureT-loop
 μ-loop bytes n first₀ second₀ at₀ first second at = n - at
 
+fletcher32-requires : tie.Need-fletcher32-requires Inv-loop μ-loop
+fletcher32-requires c κs = search needs
+
+returns : tie.Need-returns Inv-loop μ-loop
+returns c = search needs
+
 loop-holds : tie.Need-loop-holds Inv-loop μ-loop
 loop-holds c = search needs
 
@@ -45,13 +51,12 @@ loop-less c = search needs
 
 loop-again : tie.Need-loop-again Inv-loop μ-loop
 loop-again c =
-    let l = c .before .before .before .before .before .loop in
-    let lanes = c .before .before .lanes in (
+    let l = c .before .before .before .before .before .loop in (
       search needs,
       search needs,
       search needs,
       search needs,
-      block-more _ (l .at) _ _ _ _ _ _ _ _ (l .inv .4) (omega arith) (omega arith) (omega arith) (lanes .ensures .0 .exact) (lanes .ensures .1 .0) (lanes .ensures .1 .1) (c .before .fold .ensures .0)
+      block-more _ (l .at) _ _ _ _ _ _ _ _ (l .inv .4) (omega arith) (omega arith) (omega arith) (c .before .before .lanes .ensures .0 .exact) (c .before .before .lanes .ensures .1 .0) (c .before .before .lanes .ensures .1 .1) (c .before .fold .ensures .0)
           (c .fold2 .ensures .0),
     )
 
@@ -67,10 +72,8 @@ part-last-block-end c = search needs
 last-block-requires : tie.Need-last-block-requires Inv-loop μ-loop
 last-block-requires c κs = search needs
 
-returns : tie.Need-returns Inv-loop μ-loop
-returns c =
-    let l = c .before .before .before .loop in
-    any-answer _ (l .at) _ _ _ (l .inv .4) (l .inv .1) (c .last-block .ensures)
+returns-2 : tie.Need-returns-2 Inv-loop μ-loop
+returns-2 c = any-answer _ (c .before .before .before .loop .at) _ _ _ (c .before .before .before .loop .inv .4) (c .last-block .ensures)
 
 pub fletcher32-any-spec : {M : Type 1} → statement M
 fletcher32-any-spec =
@@ -78,6 +81,8 @@ fletcher32-any-spec =
     (tie.spec
     Inv-loop
     μ-loop
+    fletcher32-requires
+    returns
     loop-holds
     sub-loop
     add-end
@@ -93,4 +98,4 @@ fletcher32-any-spec =
     part-last-block-start
     part-last-block-end
     last-block-requires
-    returns)
+    returns-2)
