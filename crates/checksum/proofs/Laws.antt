@@ -10,7 +10,7 @@ use lib.ListN.{length, drop, getD, length-drop, take-append-drop, drop-of-length
 use lib.Seq.{take-all, drop-cons, drop-drop}
 use Rattle.rules.specs.Bytes.{part}
 use Rattle.rules.specs.Checksum.{words, total, runningTotals, folded, checksum}
-use Rattle.rules.proofs.Bytes.{length-part}
+use Rattle.rules.proofs.Bytes.{length-part, byte-part}
 use Rattle.rules.proofs.Checksum.{checksum-less}
 use Rattle.checksum.specs.Passing.{lowWords, lowWordAt, firstTotal, secondTotal, ordered, Four, Sofar, Sums, Whole}
 
@@ -145,6 +145,37 @@ in-order s =
 
 pub answer : (s : List ℕ) (r : ℕ) → r ≡ ordered (firstTotal 0 s) (secondTotal 0 0 s) → (r ≡ checksum s) × (r < 2 ^ 32)
 answer s r e = let k : r ≡ checksum s = e ∙ in-order s in (k, omega (arith, checksum-less s))
+
+-- ---- sixteen bytes
+
+module _ (s : List ℕ) (at : ℕ) where
+  word-in-part : (k : ℕ) → k + 1 < 16 → lowWordAt s (at + k) ≡ lowWordAt (part s at 16) k
+  word-in-part k h = rw (byte-part s at 16 k (omega arith), byte-part s at 16 (k + 1) h, add-assoc at k 1)
+
+  four-in-part : (k f g a b : ℕ) → k + 7 < 16 → Four s (at + k) f g a b → Four (part s at 16) k f g a b
+  four-in-part k f g a b h four =
+      let w0 = word-in-part k (omega arith) in
+      let w2 = word-in-part (k + 2) (omega arith) in
+      let w4 = word-in-part (k + 4) (omega arith) in
+      let w6 = word-in-part (k + 6) (omega arith) in
+      record {
+        first-more = rw (← w0, ← w2, ← w4, ← w6, ← add-assoc at k 2, ← add-assoc at k 4, ← add-assoc at k 6) (four .first-more);
+        second-more = rw (← w2, ← w4, ← w6, ← add-assoc at k 2, ← add-assoc at k 4, ← add-assoc at k 6) (four .second-more);
+        small = four .small;
+      }
+
+  pub sixteen-answer : (a b x y r : ℕ) → at + 16 ≤ length s → Four s at 0 0 a b → Four s (at + 8) a b x y → r ≡ ordered x y
+      → (r ≡ checksum (part s at 16)) × (r < 2 ^ 32)
+  sixteen-answer a b x y r h half all e =
+      let bytes = part s at 16 in
+      let long : length bytes ≡ 16 = length-part s at 16 h in
+      let none : Sofar bytes 0 0 0 0 0 = record { first-same = refl; second-same = refl } in
+      let eight = four-passed bytes 0 0 0 0 0 a b none (omega arith) (four-in-part 0 0 0 a b (omega arith) (rw add-zero half)) in
+      let sixteen = four-passed bytes 0 0 8 a b x y eight (omega arith) (four-in-part 8 a b x y (omega arith) all) in
+      answer bytes r (ordered-end bytes 0 0 16 x y r sixteen (omega arith) e)
+
+pub whole-sixteen : (s : List ℕ) (r : ℕ) → length s ≡ 16 → (r ≡ checksum (part s 0 16)) × (r < 2 ^ 32) → (r ≡ checksum s) × (r < 2 ^ 32)
+whole-sixteen s r h e = (e .0 ∙ ap checksum (take-all 16 s (omega arith)), e .1)
 
 -- ---- block by block
 

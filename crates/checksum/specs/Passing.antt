@@ -15,10 +15,6 @@ lowWords (x ∷ y ∷ rest) = (x + y * 256) ∷ lowWords rest
 abbrev pub lowWordAt : List ℕ → ℕ → ℕ
 lowWordAt bytes at = getD bytes at 0 + getD bytes (at + 1) 0 * 256
 
--- The word that stands at an address.
-abbrev pub highWordAt : List ℕ → ℕ → ℕ
-highWordAt bytes at = getD bytes at 0 * 256 + getD bytes (at + 1) 0
-
 -- The two exact totals over all the bytes, from sums that stood before them.
 abbrev pub firstTotal : ℕ → List ℕ → ℕ
 firstTotal first bytes = first + total (lowWords bytes)

@@ -8,7 +8,7 @@ ghost use Prim.Native.Nat.{_+_, _*_, _%_, _^_, _≤_, _<_};
 ghost use lib.ListN.{length};
 ghost use Rattle.rules.specs.Bytes.{part};
 ghost use Rattle.rules.specs.Checksum.{folded, checksum};
-ghost use Rattle.checksum.specs.Passing.{lowWordAt, highWordAt, firstTotal, secondTotal, ordered, Longer, Four, Sums, Whole};
+ghost use Rattle.checksum.specs.Passing.{lowWordAt, firstTotal, secondTotal, ordered, Longer, Four, Sums, Whole};
 
 // A byte as a number to calculate with. A call of this asks its caller for no proof that the byte fits.
 fn wide(x: u8) -> u32
@@ -90,7 +90,7 @@ fn weighted(x1: u32, x2: u32, x3: u32, x4: u32, x5: u32, x6: u32, x7: u32) -> u6
         + 7 * (x7 as u64)
 }
 
-// The two exact totals of all the bytes.
+// Two exact totals, the first and the second.
 pub struct Totals {
     pub first: u64,
     pub second: u64,
@@ -257,32 +257,14 @@ fn last_block(bytes: &[u8], first: u64, second: u64) -> u64
     few(&bytes[at..], passed.first, passed.second)
 }
 
-// The word at an address, its high byte first, as the layout has it.
-fn high_word(bytes: &[u8], at: usize) -> u64
-    requires { ⌜ at + 2 ≤ length (now bytes) ⌝ }
-    ensures { λ r. ⌜ (r ≡ highWordAt (now (bytes .entry)) at) × (r < 65536) ⌝ }
-{
-    wide(bytes[at]) as u64 * 256 + wide(bytes[at + 1]) as u64
-}
-
-// The checksum of the sixteen bytes at an address. Locations and entries have one each, so it goes straight through their eight words,
-// from running total to running total.
+// The checksum of the sixteen bytes at an address. Locations and entries have one each, so it goes straight through their eight words.
 pub fn fletcher32_sixteen(bytes: &[u8], at: usize) -> u64
     requires { ⌜ at + 16 ≤ length (now bytes) ⌝ }
     ensures { λ r. ⌜ (r ≡ checksum (part (now (bytes .entry)) at 16)) × (r < 2 ^ 32) ⌝ }
 {
-    let one = high_word(bytes, at);
-    let two = one + high_word(bytes, at + 2);
-    let three = two + high_word(bytes, at + 4);
-    let four = three + high_word(bytes, at + 6);
-    let five = four + high_word(bytes, at + 8);
-    let six = five + high_word(bytes, at + 10);
-    let seven = six + high_word(bytes, at + 12);
-    let eight = seven + high_word(bytes, at + 14);
-    join(
-        fold(eight),
-        fold(one + two + three + four + five + six + seven + eight),
-    )
+    let half = four(bytes, at, 0, 0);
+    let all = four(bytes, at + 8, half.first, half.second);
+    finish(all.first, all.second)
 }
 
 // The checksum of at most 16,777,216 bytes.
@@ -290,6 +272,9 @@ pub fn fletcher32(bytes: &[u8]) -> u64
     requires { ⌜ length (now bytes) ≤ 16777216 ⌝ }
     ensures { λ r. ⌜ (r ≡ checksum (now (bytes .entry))) × (r < 2 ^ 32) ⌝ }
 {
+    if bytes.len() == 16 {
+        return fletcher32_sixteen(bytes, 0);
+    }
     last_block(bytes, 0, 0)
 }
 
