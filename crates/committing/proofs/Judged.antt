@@ -58,9 +58,6 @@ standing-of q = rw (← q .sound .setting) q
 -- ---- The merged index is counted
 
 module _ (h : List ℕ) {s : Setting} {st : State} {r : Record} (q : Standing h s st r) where
-  pub record-low : r .address ≤ 16777216
-  record-low = omega (arith, q .right .below, q .sound .inside, q .sound .short)
-
   module _ {at : ℕ} (e : at ≡ indexAt r) where
     pub merged-fits : at + entryWidth * r .entries ≤ length h
     merged-fits = omega (arith, q .right .inside, q .sound .inside)
