@@ -1,59 +1,20 @@
 -- The place of a revision's record, as the code comes to it.
-use mathlib.Core.Path.{_≡_, refl, _∙_}
-use mathlib.Core.Bool.{Bool, true, false, _&&_}
+use mathlib.Core.Path.{_≡_, refl}
 use mathlib.Core.List.{List}
 use Prim.Native.Nat.{ℕ, zero, suc, _+_, _-_, _≤_}
 use native.Mathlib.Omega.{arith}
 use lib.ListN.{length, take, drop}
 use Rattle.rules.specs.Bytes.{part}
 use Rattle.rules.specs.Layout.{settingOf, recordOf}
-use Rattle.rules.specs.Rows.{revisionUnknown}
-use Rattle.rules.specs.Calls.{_then_, historyRows, recordRows, asked, browseRows, browse}
+use Rattle.rules.specs.Calls.{historyRows, recordRows, asked, browseRows, browse}
 use Rattle.rules.specs.declared.Setting.{Setting}
 use Rattle.rules.specs.declared.Record.{Record}
 use Rattle.rules.specs.declared.Browsed.{Browsed}
-use Rattle.rules.proofs.Rows.{row-holds, row-past, rows-hold, rows-past, row-clear, then-clear, left-alone}
-use Rattle.whole.specs.Sound.{Sound}
-use Rattle.whole.proofs.Sound.{history-sound}
-use Rattle.revisions.proofs.Known.{asked-stands}
-use Rattle.records.proofs.Fields.{rows-facts}
-
--- ---- The rows
-
-module _ (h : List ℕ) (revision : ℕ) {number : ℕ} (e : number ≡ historyRows h (settingOf h)) where
-  pub rows-refused : (number ≡ 0 → ⊥) → number ≡ browseRows h revision
-  unfolding browseRows
-  rows-refused f = rows-hold _ number e f
-
-  module _ {s : Setting} {b : Bool} (z : number ≡ 0) (i : s ≡ settingOf h) (q : b ≡ revisionUnknown s revision) where
-    pub rows-unknown : b ≡ true → 6 ≡ browseRows h revision
-    unfolding browseRows
-    rows-unknown t = rows-past _ e z (row-holds 6 _ (omega arith) (rw i at q) t)
-
-    pub rows-record : {k n : ℕ} → b ≡ false → k ≡ asked s revision → n ≡ recordRows h s k → n ≡ browseRows h revision
-    unfolding browseRows
-    rows-record t a r = rows-past _ e z (row-past 6 _ (rw i at q) t (r ∙ rw (a, i)))
-
--- Where none of them holds.
-pub record Browsable (h : List ℕ) (revision : ℕ) : Type 0 where
-  pub sound : Sound h (settingOf h)
-  pub stands : asked (settingOf h) revision ≤ settingOf h .count
-  pub clear : recordRows h (settingOf h) (asked (settingOf h) revision) ≡ 0
-
-pub rows-clear : (h : List ℕ) (revision : ℕ) → browseRows h revision ≡ 0 → Browsable h revision
-unfolding browseRows
-rows-clear h revision e =
-    let a = then-clear _ _ e in
-    let b = then-clear _ _ (a .1) in
-    record {
-      sound = history-sound h (a .0);
-      stands = asked-stands (settingOf h) revision (row-clear 6 _ (omega arith) (b .0));
-      clear = b .1;
-    }
-
-pub clear-at : (h : List ℕ) (revision : ℕ) {s : Setting} {k : ℕ} → Browsable h revision → s ≡ settingOf h → k ≡ asked s revision
-    → (k ≤ s .count) × (recordRows h s k ≡ 0)
-clear-at h revision w i a = rw (a, i) (w .stands, w .clear)
+use Rattle.rules.proofs.Places.{end-behind}
+use Rattle.rules.proofs.Rows.{row-clear, then-clear, left-alone}
+use Rattle.whole.proofs.Sound.{sound}
+use Rattle.records.specs.Sound.{Standing}
+use Rattle.records.proofs.Fields.{right-facts}
 
 -- ---- The place
 
@@ -62,26 +23,41 @@ module _ (h : List ℕ) (revision : ℕ) {number : ℕ} (e : number ≡ browseRo
   unfolding browse
   place-refused f = rw (← e) (left-alone number _ _ f)
 
-  pub place-found : {s : Setting} {k : ℕ} {r : Record} → number ≡ 0 → s ≡ settingOf h → k ≡ asked s revision → r ≡ recordOf h s k
+  pub place-found : {s : Setting} {r : Record} → number ≡ 0 → Standing h s (asked s revision) r
       → _≡_ {A = Browsed} (record { number = 0; offset = r .address; length = r .size }) (browse h revision)
   unfolding browse
-  place-found z i a q = rw (← e, z, q, a, i)
+  place-found z w = rw (← e, z, w .found, w .sound .setting)
+
+-- ---- Its bytes
 
 -- The record ends within the history.
-record-ends : (h : List ℕ) (s : Setting) (k : ℕ) → Sound h s → recordRows h s k ≡ 0 → recordOf h s k .address + recordOf h s k .size ≤ length h
-unfolding recordOf
-record-ends h s zero w z = omega arith
-record-ends h s (suc k) w z = omega (arith, rows-facts h s (suc k) (omega arith) z .0 .ahead, w .inside)
+record-ends : (h : List ℕ) (s : Setting) (k : ℕ) → s .address ≤ length h → recordRows h s k ≡ 0 → recordOf h s k .address + recordOf h s k .size ≤ length h
+unfolding recordRows recordOf
+record-ends h s zero l z = omega arith
+record-ends h s (suc k) l z =
+    let r = recordOf h s (suc k) in
+    let f = right-facts h s (suc k) r (row-clear 7 _ (omega arith) (then-clear _ _ z .0)) .0 in
+    omega (arith, f .ends, end-behind (s .form) (r .address) (r .size))
 
+-- What passes its rows has a whole history, ahead of which the record lies.
+rows-ends : (h : List ℕ) (revision : ℕ) → browseRows h revision ≡ 0
+    → recordOf h (settingOf h) (asked (settingOf h) revision) .address + recordOf h (settingOf h) (asked (settingOf h) revision) .size ≤ length h
+unfolding browseRows historyRows
+rows-ends h revision z =
+    let a = then-clear _ _ z in
+    let b = then-clear _ _ (a .0) in
+    let w = sound h (b .0) refl (row-clear 5 _ (omega arith) (b .1)) in
+    record-ends h (settingOf h) (asked (settingOf h) revision) (omega (arith, w .inside)) (then-clear _ _ (a .1) .1)
+
+-- So there is room for what was placed.
 pub place-room : (h : List ℕ) (revision : ℕ) {b : Browsed} → b ≡ browse h revision → b .offset + b .length ≤ length h
 unfolding browse
 place-room h revision q = rw q (go (browseRows h revision) refl)
   where
     go : (n : ℕ) → browseRows h revision ≡ n → browse h revision .offset + browse h revision .length ≤ length h
-    go zero z = let w = rows-clear h revision z in rw z (record-ends h (settingOf h) (asked (settingOf h) revision) (w .sound) (w .clear))
+    go zero z = rw z (rows-ends h revision z)
     go (suc n) z = rw z (omega arith)
 
 -- The part of the history there.
-pub place-part : (h : List ℕ) (revision to : ℕ) {b : Browsed} → b ≡ browse h revision → to ≡ b .offset + b .length
-    → take (to - b .offset) (drop (b .offset) h) ≡ part h (browse h revision .offset) (browse h revision .length)
-place-part h revision to {b} q t = let l : to - b .offset ≡ b .length = omega arith in rw (← q, l)
+pub part-there : (h : List ℕ) (at n : ℕ) → take (at + n - at) (drop at h) ≡ part h at n
+part-there h at n = let l : at + n - at ≡ n = omega arith in rw l

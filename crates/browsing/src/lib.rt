@@ -1,48 +1,43 @@
 // Browsing: where the record of a revision stands, and its index entries, one at a time.
 use rules::Browsed;
+use rules::Form;
 use rules::Step;
 ghost use mathlib.Core.Path.{_≡_};
-ghost use Rattle.rules.specs.Calls.{browseRows, browse, stepEnd, browseStep, browseNext};
+ghost use Prim.Native.Nat.{_+_, _≤_};
+ghost use lib.ListN.{length};
+ghost use Rattle.rules.specs.Calls.{browse, stepEnd, browseStep, browseNext};
 ghost use Rattle.browsing.specs.Lent.{PartAt};
 
 // ---- The record of a revision
-
-// Rows 1, 2, 3, 5, 6, 7, 8.
-fn browse_rows(history: &[u8], revision: u64) -> u64
-    ensures { λ r. ⌜ r ≡ browseRows (now (history .entry)) revision ⌝ }
-{
-    let number = whole::history_rows(history);
-    if number != 0 {
-        return number;
-    }
-    let s = whole::setting(history);
-    if revisions::revision_unknown(s, revision) {
-        return 6;
-    }
-    let k = revisions::asked(s, revision);
-    records::record_rows(history, s, k)
-}
 
 // Where the record of a revision stands.
 pub fn browse_place(history: &[u8], revision: u64) -> Browsed
     ensures { λ r. ⌜ r ≡ browse (now (history .entry)) revision ⌝ }
 {
-    let number = browse_rows(history, revision);
-    if number != 0 {
+    let judged = revisions::judge_alone(history, revision);
+    if judged.number != 0 {
         return Browsed {
-            number,
+            number: judged.number,
             offset: 0,
             length: 0,
         };
     }
-    let s = whole::setting(history);
-    let k = revisions::asked(s, revision);
-    let r = records::record_of(history, s, k);
+    let record = judged.record;
     Browsed {
         number: 0,
-        offset: r.address,
-        length: r.size,
+        offset: record.address,
+        length: record.size,
     }
+}
+
+// The bytes that lie there, as a part of the history. Whoever has judged the revision takes them without judging it again.
+pub fn part_of<'a>(history: &'a [u8], found: Browsed) -> &'a [u8]
+    requires { ⌜ found .offset + found .length ≤ length (now history) ⌝ }
+    ensures { λ r. ⌜ PartAt (history .entry) (found .offset) (found .length) r ⌝ }
+{
+    let from = found.offset as usize;
+    let to = from + found.length as usize;
+    &history[from..to]
 }
 
 // The record's bytes as a part of the history, and where that part lies; the empty part at its start where there is no record.
@@ -50,9 +45,7 @@ pub fn record_part<'a>(history: &'a [u8], revision: u64) -> &'a [u8]
     ensures { λ r. ⌜ PartAt (history .entry) (browse (now (history .entry)) revision .offset) (browse (now (history .entry)) revision .length) r ⌝ }
 {
     let found = browse_place(history, revision);
-    let from = found.offset as usize;
-    let to = from + found.length as usize;
-    &history[from..to]
+    part_of(history, found)
 }
 
 // ---- Its entries
@@ -69,35 +62,38 @@ fn step_end(kind: u64) -> Step
     }
 }
 
-// What stands at a place of the lent bytes, which may be any bytes. Their entry count may be any number, so it is held to how
-// many entries there is room for, and multiplied by nothing.
+// What stands at a place of the lent bytes, which may be any bytes, of any page size. Their entry count may be any number, so it is
+// held to how many entries there is room for, and nothing is multiplied before that.
 pub fn step_at(bytes: &[u8], place: u64) -> Step
     ensures { λ r. ⌜ r ≡ browseStep (now (bytes .entry)) place ⌝ }
 {
-    let room = bytes.len() as u64;
+    let form = Form { page: 0 };
+    let room = bytes.len();
     if room == 0 {
         return step_end(1);
     }
-    if room < 76 {
+    let bare = layout::bare_width(form);
+    if room < bare {
         return step_end(7);
     }
-    let entries = numbers::get_u64(bytes, 56);
-    if (room - 76) / 24 < entries {
+    let entries = numbers::get_u64(bytes, layout::entry_count_at(form));
+    let width = layout::entry_width(form);
+    let most = ((room - bare) / width) as u64;
+    if most < entries {
         return step_end(7);
     }
     if entries <= place {
         return step_end(1);
     }
-    let at = 72 + 24 * place as usize;
-    let logical = numbers::get_u64(bytes, at);
-    let physical = numbers::get_u64(bytes, at + 8);
-    let page_sum = numbers::get_u32(bytes, at + 16);
-    let entry_sum = numbers::get_u32(bytes, at + 20);
+    let front = layout::front_width(form);
+    let at = front + layout::entries_width(form, place as usize);
+    let e = index::entry_at(form, bytes, at);
+    let entry_sum = numbers::get_u32(bytes, at + layout::entry_sum_at(form));
     Step {
         kind: 0,
-        logical,
-        physical,
-        page_sum,
+        logical: e.logical,
+        physical: e.physical,
+        page_sum: e.checksum,
         entry_sum,
     }
 }

@@ -71,6 +71,7 @@ fn longer(lane: Lane, bytes: &[u8], at: usize) -> Lane
 }
 
 // The total of eight numbers.
+// More than seven parameters: one a lane, each a number that stays in a register of the machine.
 fn total(x0: u32, x1: u32, x2: u32, x3: u32, x4: u32, x5: u32, x6: u32, x7: u32) -> u64
     ensures { λ r. ⌜ (r ≡ x0 + x1 + x2 + x3 + x4 + x5 + x6 + x7) × (r < 2 ^ 35) ⌝ }
 {
@@ -99,6 +100,7 @@ pub struct Totals {
 // The totals of the words of eight lanes. The second sum counts a word once for itself and once for each word after it. A lane counts its
 // word once for each row from the word's own on, where lane 0's word is to count eight times as often, and that of each next lane once
 // less: hence the eight times, and what is taken off.
+// More than seven parameters: one a lane.
 fn gather(l0: Lane, l1: Lane, l2: Lane, l3: Lane, l4: Lane, l5: Lane, l6: Lane, l7: Lane) -> Totals
     requires { ⌜ l1 .0 + 2 * l2 .0 + 3 * l3 .0 + 4 * l4 .0 + 5 * l5 .0 + 6 * l6 .0 + 7 * l7 .0 ≤ 8 * (l0 .1 + l1 .1 + l2 .1 + l3 .1 + l4 .1 + l5 .1 + l6 .1 + l7 .1) ⌝ }
     ensures { λ r. ⌜ (r .first ≡ l0 .0 + l1 .0 + l2 .0 + l3 .0 + l4 .0 + l5 .0 + l6 .0 + l7 .0) × (r .second + (l1 .0 + 2 * l2 .0 + 3 * l3 .0 + 4 * l4 .0 + 5 * l5 .0 + 6 * l6 .0 + 7 * l7 .0) ≡ 8 * (l0 .1 + l1 .1 + l2 .1 + l3 .1 + l4 .1 + l5 .1 + l6 .1 + l7 .1)) ⌝ }

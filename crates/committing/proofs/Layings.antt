@@ -1,157 +1,252 @@
 -- What a commit lays, one store behind the other, is what the rules say that it leaves.
-use mathlib.Core.Path.{_≡_, sym, ap, _∙_}
-use mathlib.Core.List.{List, _++_}
-use Prim.Native.Nat.{ℕ, _+_, _*_, _≤_}
+use mathlib.Core.Path.{_≡_, refl, sym, ap, _∙_}
+use mathlib.Core.List.{List, [], _∷_, _++_}
+use Prim.Native.Nat.{ℕ, suc, _+_, _*_, _-_, _≤_, _<_}
+use native.Mathlib.Nat.{suc-mul, mul-le-mul-right}
 use native.Mathlib.Omega.{arith}
 use lib.ListN.{length, length-append}
+use lib.Seq.{length-take-le}
 use borrow.Author.Tests.{eqb-true}
-use Rattle.rules.specs.Bytes.{part, laid}
-use Rattle.rules.specs.Layout.{settingOf, settingWith, summed, headerBytes, entriesAt, indexOf, recordSize, recordBytes, wholeSize, wholeBytes, locationAt, locationBytes}
-use Rattle.rules.specs.View.{ownPages}
-use Rattle.rules.specs.Session.{putAll, ownEntry, mergedIndex, mergedCount, committed}
+use Rattle.rules.specs.Bytes.{part, numberBytes, laid}
+use Rattle.rules.specs.Checksum.{checksum}
+use Rattle.rules.specs.Layout.{
+  entryWidth,
+  entrySumAt,
+  entriesWidth,
+  frontWidth,
+  headerWidth,
+  headerBytes,
+  settingWith,
+  settingOf,
+  wholeSize,
+  wholeBytes,
+  locationWidth,
+  locationAt,
+  indexBytes,
+  entriesIn,
+  recordSize,
+  frontBytes,
+  recordBytes,
+  indexOf,
+  nameAt,
+}
+use Rattle.rules.specs.View.{ownPages, ownAddress}
+use Rattle.rules.specs.Session.{put, putAll, ownEntry, mergedIndex, mergedCount, recordStored, settingStored, locationsStored, committed}
+use Rattle.rules.specs.declared.Form.{Form}
 use Rattle.rules.specs.declared.Setting.{Setting}
 use Rattle.rules.specs.declared.Record.{Record}
 use Rattle.rules.specs.declared.Entry.{Entry}
+use Rattle.rules.specs.declared.Index.{Index}
 use Rattle.rules.specs.declared.State.{State}
-use Rattle.rules.proofs.Bytes.{length-numberBytes, part-laid-below, byte-laid-below}
-use Rattle.rules.proofs.Index.{length-indexBytes, length-merged}
-use Rattle.records.specs.Lying.{indexAt}
+use Rattle.rules.proofs.Bytes.{length-laid, part-laid-below, byte-laid-below, laid-then}
+use Rattle.rules.proofs.Places.{end-behind, entry-least, entries-product}
+use Rattle.rules.proofs.Entries.{entries-laid, length-indexBytes, length-merged, sums-laid}
+use Rattle.layout.specs.Paged.{farthest}
+use Rattle.parts.proofs.Laid.{summed-laid, length-summed}
+use Rattle.whole.specs.Sound.{Sound}
+use Rattle.whole.specs.Places.{Locked, Extensible}
+use Rattle.records.specs.Sound.{SoundRecord, indexIn}
 use Rattle.records.proofs.Fields.{index-there}
-use Rattle.records.proofs.Stands.{index-rising, page-below}
-use Rattle.recording.specs.Recordable.{Locked, Recordable, Extensible}
-use Rattle.committing.specs.Stored.{recordStored, settingStored, Committable}
+use Rattle.records.proofs.Stands.{index-rising}
+use Rattle.records.proofs.Front.{length-front}
+use Rattle.merge.specs.Merge.{Mergeable}
+use Rattle.committing.specs.Stored.{Standing, Committable, textsStored}
 
--- ---- Sizes
+-- The pages of a session lie one behind the other.
+page-lies : (i n p : ℕ) → i < n → i * p + p ≤ n * p
+page-lies i n p h = rw (← suc-mul) (mul-le-mul-right p h)
 
-length-recordBytes : (revision parent : ℕ) (time : List ℕ) (logical page user : ℕ) (index : List Entry) (name comment : List ℕ) → length time ≡ 16
-    → length (recordBytes revision parent time logical page user index name comment) ≡ recordSize (length index) (length name) (length comment)
-unfolding recordBytes summed
-length-recordBytes revision parent time logical page user index name comment e =
-    simp (length-append, length-numberBytes, length-indexBytes, e) (omega arith)
+-- Pages put in with the same entries give the same index.
+putAll-same : (make other : ℕ → ℕ → Entry) (i : ℕ) (pages : List ℕ) (index : List Entry)
+    → ((j a : ℕ) → j < i + length pages → make j a ≡ other j a) → putAll make i pages index ≡ putAll other i pages index
+unfolding putAll
+putAll-same make other i [] index h = refl
+putAll-same make other i (a ∷ pages) index h =
+    rw (h i a (omega arith)) (putAll-same make other (suc i) pages (put (other i a) index) (λ j b l. h j b (omega arith)))
 
--- ---- What the record to be stored says of itself
+-- ---- Where the record stands, and its room
 
-module _ (h : List ℕ) (s : Setting) (st : State) (parent r : Record) (time name comment : List ℕ) (q : Committable h s st parent r time name comment) where
-  address-is : r .address ≡ st .end + st .n * s .page
-  unfolding recordStored
-  address-is = rw (q .stored)
+module _ {h : List ℕ} {s : Setting} {st : State} {parent r : Record} (q : Standing h s st parent r) where
+  abbrev sound : Sound h s
+  sound = q .session .parent .sound
 
-  size-is : r .size ≡ recordSize (mergedCount (indexOf h parent) (ownPages st)) (length name) (length comment)
-  unfolding recordStored
-  size-is = rw (q .stored)
+  abbrev right : SoundRecord h s parent
+  right = q .session .parent .right
 
-  page-is : r .page ≡ s .page
-  unfolding recordStored
-  page-is = rw (q .stored)
+  pub address-is : r .address ≡ ownAddress s st (st .n)
+  address-is = ap (λ (t : Record). t .address) (q .stored)
 
-  entries-is : r .entries ≡ mergedCount (indexOf h parent) (ownPages st)
-  unfolding recordStored
-  entries-is = rw (q .stored)
+  entries-is : r .entries ≡ mergedCount (indexOf h (s .form) parent) (ownPages st)
+  entries-is = ap (λ (t : Record). t .entries) (q .stored)
 
-  name-is : r .name ≡ length name
-  unfolding recordStored
-  name-is = rw (q .stored)
+  size-is : r .size ≡ recordSize (s .form) (r .entries) (r .name) (r .comment)
+  size-is = ap (λ (t : Record). t .size) (q .stored) ∙ rw (← entries-is)
 
-  comment-is : r .comment ≡ length comment
-  unfolding recordStored
-  comment-is = rw (q .stored)
-
-  -- It stands behind the whole history, and there is room for it and for the new whole history.
   pub stored-behind : s .address + s .size ≤ r .address
-  stored-behind = omega (arith, q .standing .session .end, address-is)
+  stored-behind = omega (arith, address-is, q .session .end, end-behind (s .form) (s .address) (s .size))
 
+  -- The record ends where the new whole history begins, or ahead of it, and that ends within the buffer.
   pub stored-room : r .address + r .size + wholeSize (s .count + 1) ≤ length h
-  unfolding settingStored
-  stored-room = q .room
+  stored-room =
+      let after = settingStored s r in
+      omega (arith, q .room, end-behind (s .form) (r .address) (r .size), end-behind (s .form) (after .address) (after .size))
 
-  -- ---- What the stores ask
+  pub texts-room : nameAt (s .form) r + r .name + r .comment + 4 ≤ length h
+  texts-room = omega (arith, size-is, stored-room)
 
   lock-stands : Locked h
   unfolding settingOf settingWith
-  lock-stands = eqb-true _ _ (sym (ap (λ (t : Setting). t .lock) (q .standing .sound .setting)) ∙ q .standing .session .locked)
+  lock-stands = eqb-true _ _ (sym (ap (λ (t : Setting). t .lock) (sound .setting)) ∙ q .session .locked)
 
-  pub recordable : {at : ℕ} → at ≡ indexAt parent → st .n ≤ length (st .pages) → Recordable h at (parent .entries) (st .pages) (st .n) (st .end) r time name comment
-  recordable e l =
-      record {
-        locked = lock-stands;
-        short = q .standing .sound .short;
-        rising = rw e (index-rising h s parent (q .standing .right));
-        small = λ k j. rw e (omega (arith, page-below h s parent (q .standing .right) k j, q .standing .right .small));
-        listed = l;
-        distinct = q .standing .session .differ;
-        index-ahead = omega (arith, e, q .standing .right .inside, stored-behind);
-        pages-ahead = rw page-is (omega (arith, address-is));
-        entries-stored = entries-is ∙ rw (e, index-there h parent);
-        name-stored = name-is;
-        comment-stored = comment-is;
-        time-long = q .time-long;
-        sized = size-is ∙ rw (entries-is, name-is, comment-is);
-        room = omega (arith, stored-room);
-      }
+  -- ---- The merged index, put together once the front was laid
 
-  -- The record stands behind the header, and leaves its lock alone.
-  lock-left : {h1 : List ℕ} (bytes : List ℕ) → h1 ≡ laid h (r .address) bytes → r .address + length bytes ≤ length h → Locked h1
-  lock-left {h1} bytes e l =
-      rw (e, byte-laid-below h (r .address) bytes l 5 (omega (arith, stored-behind, q .standing .sound .behind))) lock-stands
+  module _ (time : List ℕ) (sixteen : length time ≡ 16) (user : ℕ) (x1 : List ℕ) (p1 : x1 ≡ laid h (r .address) (frontBytes (s .form) r time user)) where
+    abbrev front : List ℕ
+    front = frontBytes (s .form) r time user
 
-  pub extensible : {h1 : List ℕ} (bytes : List ℕ) → h1 ≡ laid h (r .address) bytes → length bytes ≡ r .size → length h1 ≡ length h → Extensible h1 s r
-  extensible bytes p b e =
-      record {
-        locked = lock-left bytes p (omega (arith, stored-room));
-        short = omega (arith, q .standing .sound .short);
-        few = q .standing .session .few;
-        ahead = omega (arith, stored-behind, q .standing .sound .sized);
-        room = omega (arith, stored-room);
-      }
+    abbrev parents : Index
+    parents = indexIn s parent
 
-  pub stored-small : (r .address ≤ 33554432) × (r .size ≤ 33554432) × (s .count ≤ 1024)
-  stored-small = (omega (arith, stored-room, q .standing .sound .short), omega (arith, stored-room, q .standing .sound .short), q .standing .sound .few)
-
-  -- ---- What they leave
-
-  module _ (user : ℕ) where
     abbrev merged : List Entry
-    merged = mergedIndex h s st (indexOf h parent)
+    merged = mergedIndex h s st (indexOf h (s .form) parent)
 
-    abbrev stored : List ℕ
-    stored = recordBytes (s .count + 1) (st .parent) time (st .size) (s .page) user merged name comment
+    wide : length front ≡ frontWidth (s .form)
+    wide = length-front (s .form) r time sixteen user
 
-    merged-same : {at : ℕ} → at ≡ indexAt parent
-        → putAll (ownEntry h (s .page) (st .end)) 0 (ownPages st) (entriesAt h at (parent .entries)) ≡ merged
+    fits : r .address + length front ≤ length h
+    fits = omega (arith, wide, size-is, stored-room)
+
+    long : length x1 ≡ length h
+    long = ap length p1 ∙ length-laid h (r .address) front fits
+
+    ahead : parents .at + entriesWidth (s .form) (parent .entries) ≤ r .address
+    ahead = omega (arith, right .inside, stored-behind)
+
+    same-index : entriesIn x1 parents ≡ entriesIn h parents
+    unfolding indexIn
+    same-index = rw p1 (entries-laid (s .form) h (r .address) front (parents .at) (parent .entries) fits ahead)
+
+    same-page : (i : ℕ) → i < st .n → part x1 (st .end + i * s .form .page) (s .form .page) ≡ part h (st .end + i * s .form .page) (s .form .page)
+    same-page i l = rw p1 (part-laid-below h (r .address) front fits (st .end + i * s .form .page) (s .form .page) (omega (arith, page-lies i (st .n) (s .form .page) l, address-is)))
+
+    same-merged : st .n ≤ length (st .pages) → putAll (ownEntry x1 (s .form .page) (st .end)) 0 (ownPages st) (entriesIn x1 parents) ≡ merged
     unfolding mergedIndex
-    merged-same e = rw (e, index-there h parent)
+    same-merged l =
+        rw (same-index, index-there h s parent)
+        (putAll-same (ownEntry x1 (s .form .page) (st .end)) (ownEntry h (s .form .page) (st .end)) 0 (ownPages st) (indexOf h (s .form) parent)
+        (λ i a m. rw (same-page i (omega (arith, length-take-le (st .n) (st .pages) l)))))
 
-    record-same : {at : ℕ} → at ≡ indexAt parent
-        → recordBytes (r .revision) (r .parent) time (r .logical) (r .page) user
-        (putAll (ownEntry h (r .page) (st .end)) 0 (ownPages st) (entriesAt h at (parent .entries))) name comment
-        ≡ stored
-    unfolding recordStored
-    record-same e = rw (q .stored, merged-same e)
+    pub mergeable : {x : Index} {to : ℕ} → x ≡ parents → to ≡ r .address + frontWidth (s .form) → st .n ≤ length (st .pages)
+        → Mergeable x1 x (st .pages) (st .n) (st .end) to
+    unfolding indexIn
+    mergeable ex et l =
+        let least = entry-least (s .form) in
+        let product = entries-product (s .form) (parent .entries) in
+        let count : mergedCount (entriesIn x1 parents) (ownPages st) ≡ r .entries = rw (same-index, index-there h s parent) (sym entries-is) in
+        rw (ex, et)
+        (record {
+          rising = rw same-index (index-rising h s parent right);
+          summed = rw p1 (sums-laid (entryWidth (s .form)) (entrySumAt (s .form)) h (r .address) front fits (omega arith) (omega arith) (parents .at) (parent .entries) (omega (arith, ahead)) ∙ right .summed);
+          listed = l;
+          distinct = q .session .differ;
+          index-ahead = omega (arith, ahead);
+          pages-ahead = omega (arith, address-is);
+          room = rw (count, long) (omega (arith, size-is, stored-room));
+          short = rw long (sound .short);
+        })
 
-    -- The record has the size that it says, so it leaves the locations ahead of it alone.
-    stored-long : length stored ≡ r .size
-    stored-long = length-recordBytes (s .count + 1) (st .parent) time (st .size) (s .page) user merged name comment (q .time-long) ∙ rw (length-merged h s st (indexOf h parent), size-is)
+    pub indexed-laid : {x : Index} {to : ℕ} (x2 : List ℕ) → x ≡ parents → to ≡ r .address + frontWidth (s .form) → st .n ≤ length (st .pages)
+        → x2 ≡ laid x1 to (indexBytes (x .form) (putAll (ownEntry x1 (x .form .page) (st .end)) 0 (ownPages st) (entriesIn x1 x)))
+        → x2 ≡ laid h (r .address) (front ++ indexBytes (s .form) merged)
+    unfolding indexIn
+    indexed-laid {x} {to} x2 ex et l p2 =
+        laid-then h x1 x2 front (indexBytes (s .form) merged) (r .address) to p1 (p2 ∙ rw (ex, same-merged l)) (omega (arith, wide, et)) (omega (arith, et, size-is, stored-room))
 
-    pub record-long : {at : ℕ} → at ≡ indexAt parent
-        → length (recordBytes (r .revision) (r .parent) time (r .logical) (r .page) user
-        (putAll (ownEntry h (r .page) (st .end)) 0 (ownPages st) (entriesAt h at (parent .entries))) name comment)
-        ≡ r .size
-    record-long e = ap length (record-same e) ∙ stored-long
+-- ---- Name, comment and checksum
 
-    locations-same : part (laid h (r .address) stored) (locationAt s 1) (20 * s .count) ≡ part h (locationAt s 1) (20 * s .count)
-    locations-same =
-        part-laid-below h (r .address) stored (omega (arith, stored-long, stored-room)) (locationAt s 1) (20 * s .count)
-        (omega (arith, stored-behind, q .standing .sound .sized))
+pub texts-laid : (f : Form) (r : Record) (name comment h x1 x2 x3 : List ℕ) {at : ℕ} → at ≡ nameAt f r → x1 ≡ laid h at name → x2 ≡ laid x1 (at + length name) comment
+    → x3 ≡ laid x2 (at + length name + length comment) (numberBytes 4 (checksum (part x2 (r .address) (at + length name + length comment - r .address))))
+    → x3 ≡ textsStored f r name comment h
+unfolding textsStored
+texts-laid f r name comment h x1 x2 x3 e p1 p2 p3 = p3 ∙ rw (p2, p1, e)
 
-    pub commit-leaves : (h1 h2 h3 : List ℕ) {at : ℕ} {t : Setting} → at ≡ indexAt parent
-        → h1 ≡ laid h (r .address) (recordBytes (r .revision) (r .parent) time (r .logical) (r .page) user
-        (putAll (ownEntry h (r .page) (st .end)) 0 (ownPages st) (entriesAt h at (parent .entries))) name comment)
-        → h2 ≡ laid h1 (r .address + r .size) (wholeBytes (s .count + 1) (part h1 (locationAt s 1) (20 * s .count) ++ locationBytes (r .address) (r .size)))
-        → t ≡ settingStored s r → h3 ≡ laid h2 0 (headerBytes t)
-        → h3 ≡ committed h s st merged time user name comment
-    unfolding committed recordStored settingStored
-    commit-leaves h1 h2 h3 e p1 p2 et p3 =
-        let g1 : h1 ≡ laid h (r .address) stored = p1 ∙ rw (record-same e) in
-        let g2 : h2 ≡ laid (laid h (r .address) stored) (r .address + r .size) (wholeBytes (s .count + 1) (part h (locationAt s 1) (20 * s .count) ++ locationBytes (r .address) (r .size))) =
-        p2 ∙ rw (g1, locations-same) in
-        p3 ∙ rw (et, g2, q .stored, length-merged h s st (indexOf h parent))
+-- ---- The whole commit
+
+module _ {h : List ℕ} {s : Setting} {st : State} {parent r : Record} {time name comment : List ℕ} (c : Committable h s st parent r time name comment) (user : ℕ) where
+  abbrev q : Standing h s st parent r
+  q = c .standing
+
+  abbrev index : List Entry
+  index = mergedIndex h s st (indexOf h (s .form) parent)
+
+  abbrev stored : List ℕ
+  stored = recordBytes (s .form) r time user index name comment
+
+  abbrev start : List ℕ
+  start = frontBytes (s .form) r time user ++ indexBytes (s .form) index
+
+  count-merged : length index ≡ r .entries
+  count-merged = length-merged h s st (indexOf h (s .form) parent) ∙ sym (entries-is q)
+
+  start-long : r .address + length start ≡ nameAt (s .form) r
+  start-long = simp (length-append, length-front (s .form) r time (c .timed) user, length-indexBytes (s .form) index, count-merged) (omega arith)
+
+  stored-long : length stored ≡ r .size
+  unfolding recordBytes
+  stored-long = length-summed _ ∙ simp length-append (omega (arith, start-long, length-append (frontBytes (s .form) r time user) (indexBytes (s .form) index), size-is q, c .named, c .commented))
+
+  whole-fits : r .address + length stored ≤ length h
+  whole-fits = omega (arith, stored-long, stored-room q)
+
+  -- The record with its texts and checksum.
+  pub record-laid : (h1 h2 : List ℕ) → h1 ≡ laid h (r .address) start → h2 ≡ textsStored (s .form) r name comment h1 → h2 ≡ laid h (r .address) stored
+  unfolding textsStored recordBytes
+  record-laid h1 h2 p1 p2 =
+      let at = nameAt (s .form) r in
+      let room : at + length name + length comment + 4 ≤ length h = omega (arith, texts-room q, c .named, c .commented) in
+      let a1 = laid-then h h1 (laid h1 at name) start name (r .address) at p1 refl start-long (omega (arith, room)) in
+      let a2 = laid-then h (laid h1 at name) (laid (laid h1 at name) (at + length name) comment) (start ++ name) comment (r .address) (at + length name) a1 refl (rw length-append (omega (arith, start-long))) (omega (arith, room)) in
+      summed-laid h (laid (laid h1 at name) (at + length name) comment) h2 (start ++ name ++ comment) (r .address) (at + length name + length comment) a2 (simp length-append (omega (arith, start-long, length-append (frontBytes (s .form) r time user) (indexBytes (s .form) index)))) (omega (arith, room)) p2
+
+  module _ (h2 : List ℕ) (p2 : h2 ≡ laid h (r .address) stored) where
+    kept : length h2 ≡ length h
+    kept = ap length p2 ∙ length-laid h (r .address) stored whole-fits
+
+    -- The record stands behind the header, and leaves its lock alone.
+    lock-left : Locked h2
+    lock-left =
+        let w = sound q in
+        rw (p2, byte-laid-below h (r .address) stored whole-fits 5 (omega (arith, stored-behind q, w .behind, end-behind (s .form) 0 headerWidth))) (lock-stands q)
+
+    pub extensible : (Extensible h2 s r) × (r .address ≤ farthest) × (headerWidth ≤ length h2)
+    extensible =
+        let w = sound q in (
+          record {
+            locked = lock-left;
+            short = rw kept (w .short);
+            paged = w .paged;
+            few = q .session .few;
+            ahead = omega (arith, stored-behind q, w .sized);
+            sized = omega (arith, stored-room q, w .short);
+            room = rw kept (q .room);
+          },
+          omega (arith, stored-room q, w .short),
+          rw kept (w .front),
+        )
+
+    locations-same : locationsStored h2 s r ≡ locationsStored h s r
+    locations-same = rw (p2, part-laid-below h (r .address) stored whole-fits (locationAt s 1) (locationWidth * s .count) (omega (arith, stored-behind q, sound q .sized)))
+
+    same-record : recordStored s st (length index) (length name) (length comment) ≡ r
+    same-record =
+        let counts : recordStored s st (length index) (length name) (length comment) ≡ recordStored s st (mergedCount (indexOf h (s .form) parent) (ownPages st)) (r .name) (r .comment) =
+        rw (length-merged h s st (indexOf h (s .form) parent), c .named, c .commented) in
+        counts ∙ sym (q .stored)
+
+    pub commit-leaves : (h3 : List ℕ) → h3 ≡ laid (laid h2 (settingStored s r .address) (wholeBytes (s .form) (s .count + 1) (locationsStored h2 s r))) 0 (headerBytes (settingStored s r))
+        → h3 ≡ committed h s st index time user name comment
+    unfolding committed
+    commit-leaves h3 p3 =
+        let leaves : Record → List ℕ = λ t. laid (laid (laid h (t .address) (recordBytes (s .form) t time user index name comment)) (settingStored s t .address) (wholeBytes (s .form) (s .count + 1) (locationsStored h s t))) 0 (headerBytes (settingStored s t)) in
+        let here : laid (laid h2 (settingStored s r .address) (wholeBytes (s .form) (s .count + 1) (locationsStored h2 s r))) 0 (headerBytes (settingStored s r)) ≡ leaves r = rw (locations-same, p2) in
+        p3 ∙ here ∙ sym (ap leaves same-record)

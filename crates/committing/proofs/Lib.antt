@@ -1,3 +1,3 @@
-pub mod Judged
+pub mod Rows
 pub mod Layings
 pub mod Determined

@@ -1,70 +1,48 @@
 -- What a commit stores, and what has to hold for it to be stored.
 use mathlib.Core.Path.{_≡_}
-use mathlib.Core.Bool.{false}
 use mathlib.Core.List.{List}
-use Prim.Native.Nat.{ℕ, _+_, _≤_}
+use Prim.Native.Nat.{ℕ, _+_, _-_, _≤_}
 use lib.ListN.{length}
-use Rattle.rules.specs.Layout.{settingOf, recordOf, indexOf, recordSize, wholeSize, endOf, committedEnd}
+use Rattle.rules.specs.Bytes.{part, numberBytes, laid}
+use Rattle.rules.specs.Checksum.{checksum}
+use Rattle.rules.specs.Layout.{limit, entryLimit, revisionLimit, touchLimit, nameLimit, commentLimit, committedEnd, indexOf, nameAt}
 use Rattle.rules.specs.View.{ownPages}
-use Rattle.rules.specs.Session.{recordPlace, mergedCount}
-use Rattle.rules.specs.Calls.{_then_, historyRows, sessionRows}
+use Rattle.rules.specs.Session.{mergedCount, recordStored, settingStored}
+use Rattle.rules.specs.declared.Form.{Form}
 use Rattle.rules.specs.declared.Setting.{Setting}
 use Rattle.rules.specs.declared.Record.{Record}
 use Rattle.rules.specs.declared.State.{State}
-use Rattle.whole.specs.Sound.{Sound}
-use Rattle.records.specs.Lying.{SoundRecord}
+use Rattle.layout.specs.Paged.{Paged}
 use Rattle.sessions.specs.Sound.{SoundSession}
-
--- Rows 1, 2, 3, 5, 13, 7 and 8, which a commit begins with.
-unfoldable pub heldRows : State → List ℕ → ℕ
-heldRows st history = historyRows history (settingOf history) then sessionRows history (settingOf history) st
-
--- A session that they have passed, and its parent's record.
-pub record Standing (history : List ℕ) (s : Setting) (st : State) (parent : Record) : Type 0 where
-  pub sound : Sound history s
-  pub session : SoundSession history s st
-  pub found : parent ≡ recordOf history s (st .parent)
-  pub right : SoundRecord history s parent
-
--- The record of a commit, by how many entries it has and the sizes of its name and comment.
-unfoldable pub recordStored : Setting → State → ℕ → ℕ → ℕ → Record
-recordStored s st entries name comment = record {
-  address = recordPlace s st;
-  size = recordSize entries name comment;
-  revision = s .count + 1;
-  parent = st .parent;
-  logical = st .size;
-  page = s .page;
-  entries = entries;
-  name = name;
-  comment = comment;
-}
-
--- What the history says of itself once the record stands and the new whole history stands behind it.
-unfoldable pub settingStored : Setting → Record → Setting
-settingStored s r = record {
-  page = s .page;
-  original = s .original;
-  address = endOf s (r .address) (r .size);
-  size = wholeSize (s .count + 1);
-  count = s .count + 1;
-  lock = false;
-  branching = s .branching;
-}
 
 -- Sizes so small that no sum of them wraps.
 pub record Small (s : Setting) (st : State) (entries name comment : ℕ) : Type 0 where
-  pub end : st .end ≤ 16777216
-  pub touched : st .n ≤ 256
-  pub page : s .page ≤ 4096
-  pub count : s .count ≤ 1024
-  pub few : entries ≤ 4096
-  pub named : name ≤ 64
-  pub commented : comment ≤ 256
+  pub paged : Paged (s .form)
+  pub end : st .end ≤ limit
+  pub touched : st .n ≤ touchLimit
+  pub count : s .count ≤ revisionLimit
+  pub few : entries ≤ entryLimit
+  pub named : name ≤ nameLimit
+  pub commented : comment ≤ commentLimit
 
--- A commit whose rows have all passed, and its record.
-pub record Committable (history : List ℕ) (s : Setting) (st : State) (parent r : Record) (time name comment : List ℕ) : Type 0 where
-  pub standing : Standing history s st parent
-  pub stored : r ≡ recordStored s st (mergedCount (indexOf history parent) (ownPages st)) (length name) (length comment)
-  pub time-long : length time ≡ 16
+-- A session whose rows have passed, and the record that its commit stores, with room for it and for the new whole history.
+pub record Standing (history : List ℕ) (s : Setting) (st : State) (parent r : Record) : Type 0 where
+  pub session : SoundSession history s st parent
+  pub stored : r ≡ recordStored s st (mergedCount (indexOf history (s .form) parent) (ownPages st)) (r .name) (r .comment)
+  pub few : r .entries ≤ entryLimit
   pub room : committedEnd (settingStored s r) ≤ length history
+
+-- A commit whose rows have all passed.
+pub record Committable (history : List ℕ) (s : Setting) (st : State) (parent r : Record) (time name comment : List ℕ) : Type 0 where
+  pub standing : Standing history s st parent r
+  pub timed : length time ≡ 16
+  pub named : r .name ≡ length name
+  pub commented : r .comment ≡ length comment
+
+-- The history with name and comment behind a record's entries, and behind them the checksum of all that stands of the record by then.
+unfoldable pub textsStored : Form → Record → List ℕ → List ℕ → List ℕ → List ℕ
+textsStored f r name comment h =
+    let at = nameAt f r in
+    let end = at + length name + length comment in
+    let texts = laid (laid h at name) (at + length name) comment in
+    laid texts end (numberBytes 4 (checksum (part texts (r .address) (end - r .address))))

@@ -1,5 +1,6 @@
 // The worked examples of document 01, run through the compiled store: each line is what a call answered.
 use libc::STDOUT_FILENO;
+use rules::State;
 use store::Session;
 ghost use Prim.Native.Nat.{_≤_};
 ghost use lib.ListN.{length};
@@ -57,7 +58,7 @@ fn show_pages(pages: &[u32])
 
 // The numbers of a session, and its pages.
 fn show_session(session: Session) {
-    let state = session.state;
+    let state: State = session.state;
     say(b"  its end", state.end);
     say(b"  its parent", state.parent);
     say(b"  its size", state.size);
@@ -79,11 +80,12 @@ fn show_places(history: &[u8]) {
     let record = browsing::browse_place(history, 18446744073709551615);
     say(b"  record at", record.offset);
     say(b"  of", record.length);
-    if history.len() < 40 {
+    let judged = whole::judge(history);
+    if judged.number != 0 {
         return;
     }
-    say(b"  whole history at", numbers::get_u64(history, 20));
-    say(b"  of", numbers::get_u64(history, 28));
+    say(b"  whole history at", judged.setting.address);
+    say(b"  of", judged.setting.size);
 }
 
 fn show_step(record: &[u8], place: u64) {

@@ -1,2 +1,2 @@
+pub mod Stores
 pub mod Search
-pub mod Rising

@@ -1,9 +1,10 @@
--- The loops of the two searches: by halves among addresses that rise, and by blocks and then one by one among a session's pages.
+-- The loops over places: the search by halves among addresses that rise, the one by blocks and then one by one among a session's pages,
+-- and whether these rise.
 use mathlib.Core.Path.{_≡_, refl, sym, _∙_}
 use mathlib.Core.Bool.{Bool, true, false, _||_, true≢false}
 use mathlib.Core.List.{List}
 use mathlib.Core.Logic.{⊎-elim}
-use Prim.Native.Nat.{ℕ, _+_, _≤_, _<_}
+use Prim.Native.Nat.{ℕ, _+_, _-_, _≤_, _<_}
 use native.Mathlib.Nat.{eq-or-lt-of-le}
 use native.Mathlib.Omega.{arith}
 use borrow.Author.Count.{below-more}
@@ -12,50 +13,55 @@ use lib.Dec.{eqb}
 use lib.ListN.{length, take, getD}
 use lib.Seq.{length-take-le, getD-take}
 use Rattle.rules.specs.View.{placeOf}
-use Rattle.rules.proofs.Index.{place-hit, place-miss, order}
-use Rattle.index.specs.Rising.{Rising}
-use Rattle.index.specs.Without.{Without}
+use Rattle.rules.proofs.Entries.{place-hit, place-miss, order}
+use Rattle.rules.specs.Orders.{Rising}
+use Rattle.index.specs.Places.{Parted, Without}
 
 -- ---- by halves
 
--- The addresses ahead of low are below the page's, those from high on above it.
-pub record Between (xs : List ℕ) (page low high : ℕ) : Type 0 where
-  pub ordered : low ≤ high
-  pub within : high ≤ length xs
-  pub below : (k : ℕ) → k < low → getD xs k 0 < page
-  pub above : (k : ℕ) → high ≤ k → k < length xs → page < getD xs k 0
-
-pub search-start : (xs : List ℕ) (page high : ℕ) → high ≡ length xs → Between xs page 0 high
-search-start xs page high e = record {
+pub part-start : (xs : List ℕ) (address high : ℕ) → high ≡ length xs → Parted xs address 0 high
+part-start xs address high e = record {
   ordered = omega arith;
   within = omega arith;
   below = λ k h. absurd (omega arith);
   above = λ k h l. absurd (omega arith);
 }
 
-module _ {xs : List ℕ} {page low high : ℕ} (rising : Rising xs) (b : Between xs page low high) (middle : ℕ) (from : low ≤ middle) (to : middle < high) where
-  pub upper-half : getD xs middle 0 < page → Between xs page (middle + 1) high
-  upper-half h = record {
+module _ {xs : List ℕ} {address low high : ℕ} (rising : Rising xs) (b : Parted xs address low high) (middle : ℕ) (from : low ≤ middle) (to : middle < high) {x : ℕ} (e : x ≡ getD xs middle 0) where
+  pub part-upper : x < address → Parted xs address (middle + 1) high
+  part-upper h = record {
     ordered = omega arith;
     within = b .within;
-    below = below-more _ _ (λ k l. omega (arith, rising k middle l (omega arith))) h;
+    below = below-more _ _ (λ k l. omega (arith, rising k middle l (omega (arith, b .within)))) (omega arith);
     above = b .above;
   }
 
-  pub lower-half : page < getD xs middle 0 → Between xs page low middle
-  lower-half h = record {
+  pub part-lower : address ≤ x → Parted xs address low middle
+  part-lower h = record {
     ordered = from;
-    within = omega arith;
+    within = omega (arith, b .within);
     below = b .below;
-    above = λ k l m. ⊎-elim (λ e. rw e at h) (λ g. omega (arith, rising middle k g m)) (eq-or-lt-of-le l);
+    above = λ k l m. ⊎-elim (λ (q : middle ≡ k). rw q at (rw e at h)) (λ (g : middle < k). omega (arith, rising middle k g m)) (eq-or-lt-of-le l);
   }
 
-  pub search-hit : getD xs middle 0 ≡ page → middle ≡ placeOf page xs
-  search-hit e = sym (place-hit page xs middle (omega arith) e (λ k l q. omega (arith, rising k middle l (omega arith))))
+pub part-end : {xs : List ℕ} {address low high : ℕ} → Parted xs address low high → high ≤ low → Parted xs address low low
+part-end {xs} {address} {low} {high} b l = let e : high ≡ low = omega (arith, b .ordered) in rw e at b
 
-pub search-miss : {xs : List ℕ} {page low high : ℕ} → Between xs page low high → high ≤ low → length xs ≡ placeOf page xs
-search-miss {xs} {page} {low} {high} b h =
-    sym (place-miss page xs (λ k l e. ⊎-elim (λ g. omega (arith, b .below k g)) (λ g. omega (arith, b .above k (⊎-elim (λ q. omega arith) (λ q. omega arith) g) l)) (order k low)))
+-- The page stands at the place that was found, or nowhere.
+module _ {xs : List ℕ} {page place : ℕ} (b : Parted xs page place place) where
+  pub search-hit : place < length xs → getD xs place 0 ≡ page → place ≡ placeOf page xs
+  search-hit h e = sym (place-hit page xs place h e (λ k l q. omega (arith, b .below k l)))
+
+  pub search-miss : Rising xs → (place < length xs → getD xs place 0 ≡ page → ⊥) → length xs ≡ placeOf page xs
+  search-miss rising other = sym (place-miss page xs none)
+    where
+      none : (k : ℕ) → k < length xs → getD xs k 0 ≡ page → ⊥
+      none k l e = ⊎-elim
+          (λ (g : k < place). omega (arith, b .below k g))
+          (⊎-elim
+          (λ (g : k ≡ place). other (omega arith) (rw g at e))
+          (λ (g : place < k). omega (arith, rising place k g l, b .above place (omega arith) (omega arith))))
+          (order k place)
 
 -- ---- by blocks
 
@@ -112,3 +118,27 @@ module _ (pages : List ℕ) (n : ℕ) (fits : n ≤ length pages) (page : ℕ) w
   own-miss place h none =
       let long = length-take-le n pages fits in
       sym (place-miss page (take n pages) (λ k l q. none k (omega arith) (sym (getD-take n pages k 0 (omega arith)) ∙ q)) ∙ long)
+
+-- ---- whether the pages rise
+
+-- Those among the first k do.
+abbrev pub RisingTo : List ℕ → ℕ → Type 0
+RisingTo pages k = (i j : ℕ) → i < j → j < k → getD pages i 0 < getD pages j 0
+
+module _ (pages : List ℕ) where
+  pub rising-start : RisingTo pages 1
+  rising-start i j h l = absurd (omega arith)
+
+  pub rising-turn : (k : ℕ) → 1 ≤ k → RisingTo pages k → getD pages (k - 1) 0 < getD pages k 0 → RisingTo pages (k + 1)
+  rising-turn k p s h i j l m = ⊎-elim
+      (λ g. rw g (⊎-elim (λ f. rw f h) (λ f. omega (arith, s i (k - 1) f (omega arith))) (eq-or-lt-of-le (before g))))
+      (λ g. s i j l g)
+      (eq-or-lt-of-le (omega arith))
+    where
+      before : j ≡ k → i ≤ k - 1
+      before g = omega arith
+
+  pub rising-end : (n k : ℕ) → n ≤ length pages → n ≤ k → RisingTo pages k → Rising (take n pages)
+  rising-end n k listed h s i j l m =
+      let q : j < n = omega (arith, length-take-le n pages listed) in
+      rw (getD-take n pages i 0 (omega arith), getD-take n pages j 0 q) (s i j l (omega arith))

@@ -13,6 +13,7 @@ use borrow.Author.Tests.{lt-ltb, le-ltb}
 use Rattle.rules.specs.Bytes.{laid}
 use Rattle.rules.specs.Listing.{decimalWithin, decimal}
 use Rattle.rules.proofs.Bytes.{length-laid, take-laid, laid-nothing, sets-laid}
+use Rattle.listing.specs.Written.{digitsMost}
 
 -- A number whose last digits are found: those of what is left stand ahead of them. Of twenty places each digit found takes one,
 -- and what is left never outgrows the others.
@@ -67,7 +68,7 @@ count-start n h = record { behind = []; many = refl; digits = left-start n h }
 pub count-turn : {n left k : ℕ} → DigitsCounted n left k → 10 ≤ left → DigitsCounted n (left / 10) (k + 1)
 count-turn {n} {left} {k} d h = record { behind = _; many = ap suc (d .many) ∙ sym (add-one k); digits = left-turn (d .digits) h }
 
-pub count-end : {n left k : ℕ} → DigitsCounted n left k → left < 10 → (k + 1 ≡ length (decimal n)) × (k + 1 ≤ 20)
+pub count-end : {n left k : ℕ} → DigitsCounted n left k → left < 10 → (k + 1 ≡ length (decimal n)) × (k + 1 ≤ digitsMost)
 count-end d h = (rw (left-end (d .digits) h) (omega (arith, d .many)), omega (arith, d .many, d .digits .kept))
 
 -- ---- Digits laid over bytes

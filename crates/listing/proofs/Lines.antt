@@ -1,16 +1,18 @@
 -- Lines, written piece after piece.
 use mathlib.Core.Path.{_≡_, refl, sym, _∙_}
 use mathlib.Core.List.{List, _++_, append-assoc}
-use Prim.Native.Nat.{ℕ, _+_, _*_, _-_, _≤_}
+use Prim.Native.Nat.{ℕ, _+_, _-_, _≤_}
 use native.Mathlib.Omega.{arith}
-use lib.ListN.{length, take, drop, length-append}
+use lib.ListN.{length, take, drop, length-append, length-take, length-drop}
 use lib.Seq.{take-take}
 use Rattle.rules.specs.Bytes.{part, laid}
 use Rattle.rules.specs.Listing.{decimal, yesNo, newline, pagesWord, originalWord, revisionsWord, lockWord, branchWord, settingLine, space, shownName, recordLine}
-use Rattle.rules.specs.Layout.{timeOf}
+use Rattle.rules.specs.Layout.{timeOf, nameAt}
+use Rattle.rules.specs.declared.Form.{Form}
 use Rattle.rules.specs.declared.Setting.{Setting}
 use Rattle.rules.specs.declared.Record.{Record}
-use Rattle.rules.proofs.Bytes.{laid-then, length-part}
+use Rattle.rules.proofs.Places.{count-least}
+use Rattle.rules.proofs.Bytes.{laid-then}
 use Rattle.listing.specs.Written.{Written, Shown}
 
 -- A run of bytes that was laid is a text that was written,
@@ -36,13 +38,13 @@ written-same w e = rw (← e) w
 -- ---- The history's line
 
 pub setting-long : (s : Setting) → length (settingLine s)
-    ≡ 42 + length (decimal (s .page)) + length (decimal (s .original)) + length (decimal (s .count)) + length (yesNo (s .lock)) + length (yesNo (s .branching))
+    ≡ 42 + length (decimal (s .form .page)) + length (decimal (s .original)) + length (decimal (s .count)) + length (yesNo (s .lock)) + length (yesNo (s .branching))
 unfolding settingLine
 setting-long s = simp length-append (omega arith)
 
 -- Six pieces, one behind the other.
 pub setting-written : {x0 x1 x2 x3 x4 x5 x6 : List ℕ} {at a1 a2 a3 a4 a5 : ℕ} (s : Setting) → at + length (settingLine s) ≤ length x0
-    → Written x0 at (pagesWord ++ decimal (s .page)) x1 a1
+    → Written x0 at (pagesWord ++ decimal (s .form .page)) x1 a1
     → Written x1 a1 (originalWord ++ decimal (s .original)) x2 a2
     → Written x2 a2 (revisionsWord ++ decimal (s .count)) x3 a3
     → Written x3 a3 (lockWord ++ yesNo (s .lock)) x4 a4
@@ -67,52 +69,54 @@ between h from n = take (from + n - from) (drop from h)
 between-part : (h : List ℕ) (from n : ℕ) → between h from n ≡ part h from n
 between-part h from n = let l : from + n - from ≡ n = omega arith in rw l
 
-time-between : (h : List ℕ) (r : Record) → timeOf h r ≡ between h (r .address + 24) 16
-time-between h r = sym (between-part h (r .address + 24) 16)
+-- What is shown of time and name, by their places.
+time-between : (h : List ℕ) (r : Record) (time : ℕ) → part h time 16 ≡ timeOf h r → timeOf h r ≡ between h time 16
+time-between h r time e = sym e ∙ sym (between-part h time 16)
 
--- The name without its closing zero.
-name-between : (h : List ℕ) (r : Record) → shownName h r ≡ between h (r .address + 72 + 24 * r .entries) (r .name - 1)
-name-between h r =
-    take-take (r .name - 1) (r .name) _ (omega arith) ∙ sym (between-part h (r .address + 72 + 24 * r .entries) (r .name - 1))
+name-between : (h : List ℕ) (f : Form) (r : Record) (name : ℕ) → name ≡ nameAt f r → shownName h f r ≡ between h name (r .name - 1)
+name-between h f r name e = take-take (r .name - 1) (r .name) _ (omega arith) ∙ rw (← e) (sym (between-part h name (r .name - 1)))
 
-module _ {h : List ℕ} {r : Record} (s : Shown h r) where
-  time-long : length (between h (r .address + 24) 16) ≡ 16
-  time-long = rw (between-part h (r .address + 24) 16) (length-part h (r .address + 24) 16 (omega (arith, s .inside)))
+module _ {h : List ℕ} {f : Form} {r : Record} (s : Shown h f r) where
+  time-long : length (timeOf h r) ≡ 16
+  time-long = simp (length-take, length-drop) (omega (arith, s .inside, count-least f))
 
-  name-long : length (between h (r .address + 72 + 24 * r .entries) (r .name - 1)) + 1 ≡ r .name
-  name-long =
-      let l = length-part h (r .address + 72 + 24 * r .entries) (r .name - 1) (omega (arith, s .inside)) in
-      rw (between-part h (r .address + 72 + 24 * r .entries) (r .name - 1)) (omega (arith, s .named))
+  name-long : length (shownName h f r) + 1 ≡ r .name
+  name-long = simp (length-take, length-drop) (omega (arith, s .inside, s .named))
 
-  pub record-long : length (recordLine h r)
+  pub record-long : length (recordLine h f r)
       ≡ 21 + r .name + length (decimal (r .revision)) + length (decimal (r .parent)) + length (decimal (r .logical)) + length (decimal (r .entries))
   unfolding recordLine
-  record-long = rw (time-between h r, name-between h r) (simp length-append (omega (arith, time-long, name-long)))
+  record-long = simp length-append (omega (arith, time-long, name-long))
 
 -- Five pieces, one behind the other: behind each there is room for the next.
-module _ {x0 x1 : List ℕ} {at a1 : ℕ} {h : List ℕ} {r : Record} (s : (at + length (recordLine h r) ≤ length x0) × Shown h r)
-    (w1 : Written x0 at (decimal (r .revision) ++ space ++ decimal (r .parent)) x1 a1) where
-  pub room-time : a1 + 1 + length (between h (r .address + 24) 16) ≤ length x0
-  room-time = omega (arith, record-long (s .1), time-long (s .1), simp length-append at (w1 .next))
+module _ {x0 x1 : List ℕ} {at a1 : ℕ} {h : List ℕ} {f : Form} {r : Record} (time name : ℕ) (et : part h time 16 ≡ timeOf h r) (en : name ≡ nameAt f r)
+    (s : (at + length (recordLine h f r) ≤ length x0) × Shown h f r) (w1 : Written x0 at (decimal (r .revision) ++ space ++ decimal (r .parent)) x1 a1) where
+  timed : length (between h time 16) ≡ 16
+  timed = rw (← time-between h r time et) (time-long (s .1))
 
-  module _ {x2 : List ℕ} {a2 : ℕ} (w2 : Written x1 a1 (space ++ between h (r .address + 24) 16) x2 a2) where
+  called : length (between h name (r .name - 1)) + 1 ≡ r .name
+  called = rw (← name-between h f r name en) (name-long (s .1))
+
+  pub room-time : a1 + 1 + length (between h time 16) ≤ length x0
+  room-time = omega (arith, record-long (s .1), timed, simp length-append at (w1 .next))
+
+  module _ {x2 : List ℕ} {a2 : ℕ} (w2 : Written x1 a1 (space ++ between h time 16) x2 a2) where
     pub room-numbers : a2 + 1 + length (decimal (r .logical)) + 1 + length (decimal (r .entries)) ≤ length x0
-    room-numbers = omega (arith, record-long (s .1), time-long (s .1), simp length-append at (w1 .next))
+    room-numbers = omega (arith, record-long (s .1), timed, simp length-append at (w1 .next))
 
     module _ {x3 : List ℕ} {a3 : ℕ} (w3 : Written x2 a2 (space ++ decimal (r .logical) ++ space ++ decimal (r .entries)) x3 a3) where
-      pub room-name : a3 + 1 + length (between h (r .address + 72 + 24 * r .entries) (r .name - 1)) + 1 ≤ length x0
-      room-name =
-          omega (arith, record-long (s .1), time-long (s .1), name-long (s .1), simp length-append at (w1 .next), simp length-append at (w3 .next))
+      pub room-name : a3 + 1 + length (between h name (r .name - 1)) + 1 ≤ length x0
+      room-name = omega (arith, record-long (s .1), timed, called, simp length-append at (w1 .next), simp length-append at (w3 .next))
 
-      module _ {x4 : List ℕ} {a4 : ℕ} (w4 : Written x3 a3 (space ++ between h (r .address + 72 + 24 * r .entries) (r .name - 1)) x4 a4) where
+      module _ {x4 : List ℕ} {a4 : ℕ} (w4 : Written x3 a3 (space ++ between h name (r .name - 1)) x4 a4) where
         pub room-newline : a4 + 1 ≤ length x0
         room-newline = omega (arith, room-name)
 
-        pub record-written : {x5 : List ℕ} → x5 ≡ laid x4 a4 newline → Written x0 at (recordLine h r) x5 (a4 + 1)
+        pub record-written : {x5 : List ℕ} → x5 ≡ laid x4 a4 newline → Written x0 at (recordLine h f r) x5 (a4 + 1)
         unfolding recordLine
         record-written e =
             let a = room-time in
             let b = room-numbers in
             let c = room-name in
             let w = written-then (written-then (written-then w1 w2 (omega arith)) w3 (omega arith)) w4 (omega arith) in
-            rw (time-between h r, name-between h r) (written-same (written-then w (written-run e) (omega arith)) (simp append-assoc))
+            rw (time-between h r time et, name-between h f r name en) (written-same (written-then w (written-run e) (omega arith)) (simp append-assoc))

@@ -7,76 +7,70 @@ use native.Mathlib.Nat.{add-zero}
 use native.Mathlib.Omega.{arith}
 use lib.ListN.{length, length-append}
 use borrow.Author.Tests.{le-leb, lt-leb}
-use Rattle.rules.specs.Layout.{recordOf}
+use Rattle.rules.specs.Layout.{revisionLimit, settingOf, recordOf}
 use Rattle.rules.specs.Calls.{recordRows}
 use Rattle.rules.specs.Listing.{decimal, newline, refusedWord, settingLine, recordLine, recordLines, listRows, listText, list}
 use Rattle.rules.specs.declared.Setting.{Setting}
 use Rattle.rules.specs.declared.Record.{Record}
 use Rattle.rules.proofs.Bytes.{laid-nothing, length-laid}
 use Rattle.rules.proofs.Rows.{left-alone}
-use Rattle.listing.specs.Written.{Written, Shown, Passed, listed, fitted}
+use Rattle.listing.specs.Written.{recordMost, Written, Passed, Counted, listed, fitted}
 use Rattle.listing.proofs.Lines.{written-then}
-use Rattle.listing.proofs.Passing.{RowsLeft, rows-start, rows-turn, rows-clear, record-shown}
+use Rattle.listing.proofs.Passing.{RowsLeft, rows-start, rows-turn, rows-clear}
 
 -- ---- The records' lines
 
-lines-step : (h : List ℕ) (s : Setting) (k m : ℕ) → 0 < m → recordLines h s k m ≡ recordLine h (recordOf h s k) ++ recordLines h s (suc k) (m - 1)
+lines-step : (h : List ℕ) (s : Setting) (k m : ℕ) → 0 < m → recordLines h s k m ≡ recordLine h (s .form) (recordOf h s k) ++ recordLines h s (suc k) (m - 1)
 unfolding recordLines
 lines-step h s k zero l = absurd (omega arith)
 lines-step h s k (suc m) l = let e : suc m - 1 ≡ m = omega arith in rw e
 
--- The lines of the first k records are done.
+-- The first k records have passed, and their lines are done.
 pub record LinesLeft (h : List ℕ) (s : Setting) (k : ℕ) (done : List ℕ) : Type 0 where
-  pub passed : Passed h s
   pub rows : RowsLeft h s k
   pub all : recordLines h s 1 (s .count) ≡ done ++ recordLines h s (k + 1) (s .count - k)
 
-left-start : (h : List ℕ) (s : Setting) → Passed h s → LinesLeft h s 0 []
-left-start h s p = let e : s .count - 0 ≡ s .count = omega arith in record { passed = p; rows = rows-start h s; all = rw e }
+left-start : (h : List ℕ) (s : Setting) → LinesLeft h s 0 []
+left-start h s = let e : s .count - 0 ≡ s .count = omega arith in record { rows = rows-start h s; all = rw e }
 
 module _ {h : List ℕ} {s : Setting} {k : ℕ} {done : List ℕ} (l : LinesLeft h s k done) where
-  pub left-clear : k < s .count → recordRows h s (k + 1) ≡ 0
-  left-clear m = rows-clear (l .rows) m (l .passed .clear)
-
-  left-all : k < s .count → recordLines h s 1 (s .count) ≡ (done ++ recordLine h (recordOf h s (k + 1))) ++ recordLines h s (k + 1 + 1) (s .count - (k + 1))
+  left-all : k < s .count → recordLines h s 1 (s .count) ≡ (done ++ recordLine h (s .form) (recordOf h s (k + 1))) ++ recordLines h s (k + 1 + 1) (s .count - (k + 1))
   left-all m =
       let e : s .count - k - 1 ≡ s .count - (k + 1) = omega arith in
       l .all ∙ rw (lines-step h s (k + 1) (s .count - k) (omega arith), e, ← add-one (k + 1)) (sym (append-assoc done _ _))
 
-  left-turn : k < s .count → LinesLeft h s (k + 1) (done ++ recordLine h (recordOf h s (k + 1)))
-  left-turn m = record { passed = l .passed; rows = rows-turn (l .rows) m (sym (left-clear m)) refl; all = left-all m }
+  left-turn : k < s .count → recordRows h s (k + 1) ≡ 0 → LinesLeft h s (k + 1) (done ++ recordLine h (s .form) (recordOf h s (k + 1)))
+  left-turn m z = record { rows = rows-turn (l .rows) m (sym z) refl; all = left-all m }
 
   left-end : s .count ≤ k → recordLines h s 1 (s .count) ≡ done
   unfolding recordLines
   left-end m = let e : s .count - k ≡ 0 = omega arith in l .all ∙ rw e (append-nil done)
-
-  pub left-shown : {r : Record} → k < s .count → r ≡ recordOf h s (k + 1) → Shown h r
-  left-shown m e = rw e (record-shown h s (k + 1) (l .passed .sound) (omega arith) (left-clear m))
 
 -- Their length so far.
 pub record LinesCounted (h : List ℕ) (s : Setting) (k n : ℕ) : Type 0 where
   pub done : List ℕ
   pub left : LinesLeft h s k done
   pub many : length done ≡ n
-  pub few : n ≤ 165 * k
+  pub few : n ≤ k * recordMost
 
-pub count-start : (h : List ℕ) (s : Setting) → Passed h s → LinesCounted h s 0 0
-count-start h s p = record { done = []; left = left-start h s p; many = refl; few = omega arith }
+pub count-start : (h : List ℕ) (s : Setting) → LinesCounted h s 0 0
+count-start h s = record { done = []; left = left-start h s; many = refl; few = omega arith }
 
-pub count-turn : {h : List ℕ} {s : Setting} {k n : ℕ} {r : Record} (m : ℕ) → LinesCounted h s k n → k < s .count → r ≡ recordOf h s (k + 1)
-    → m ≡ length (recordLine h r) → m ≤ 165 → LinesCounted h s (k + 1) (n + m)
-count-turn m l i e f b = record {
+pub count-turn : {h : List ℕ} {s : Setting} {k n : ℕ} {r : Record} (m : ℕ) → LinesCounted h s k n → k < s .count → recordRows h s (k + 1) ≡ 0 → r ≡ recordOf h s (k + 1)
+    → m ≡ length (recordLine h (s .form) r) → m ≤ recordMost → LinesCounted h s (k + 1) (n + m)
+count-turn m l i z e f b = record {
   done = _;
-  left = left-turn (l .left) i;
+  left = left-turn (l .left) i z;
   many = rw (length-append, ← e, ← f) (omega (arith, l .many));
   few = omega (arith, l .few);
 }
 
-pub count-end : {h : List ℕ} {s : Setting} {k n : ℕ} → LinesCounted h s k n → s .count ≤ k → (n ≡ length (recordLines h s 1 (s .count))) × (n ≤ 168960)
-count-end l m = (rw (left-end (l .left) m) (sym (l .many)), omega (arith, l .few, l .left .rows .within, l .left .passed .sound .few))
+pub count-end : {h : List ℕ} {s : Setting} {k n : ℕ} → LinesCounted h s k n → s .count ≤ k → s .count ≤ revisionLimit → Counted h s n
+count-end l m b = record { all = rw (left-end (l .left) m) (sym (l .many)); few = omega (arith, l .few, l .left .rows .within) }
 
 -- What is written so far.
 pub record LinesWritten (h : List ℕ) (s : Setting) (before : List ℕ) (at k : ℕ) (now : List ℕ) (next : ℕ) : Type 0 where
+  pub passed : Passed h s
   pub room : at + length (recordLines h s 1 (s .count)) ≤ length before
   pub done : List ℕ
   pub left : LinesLeft h s k done
@@ -85,9 +79,10 @@ pub record LinesWritten (h : List ℕ) (s : Setting) (before : List ℕ) (at k :
 pub written-start : (h : List ℕ) (s : Setting) (before : List ℕ) (at : ℕ) → (at + length (recordLines h s 1 (s .count)) ≤ length before) × Passed h s
     → LinesWritten h s before at 0 before at
 written-start h s before at p = record {
+  passed = p .1;
   room = p .0;
   done = [];
-  left = left-start h s (p .1);
+  left = left-start h s;
   written = record { bytes = sym (laid-nothing before at); next = sym (add-zero at) };
 }
 
@@ -98,16 +93,21 @@ module _ {h : List ℕ} {s : Setting} {before : List ℕ} {at k : ℕ} {now : Li
   pub written-length : length now ≡ length before
   written-length = ap length (l .written .bytes) ∙ length-laid before at (l .done) within
 
+  -- The next record passes too.
+  pub written-clear : k < s .count → recordRows h s (k + 1) ≡ 0
+  written-clear m = rows-clear (l .left .rows) m (l .passed .clear)
+
   module _ {r : Record} (more : k < s .count) (e : r ≡ recordOf h s (k + 1)) where
     -- There is room for the next line.
-    pub written-room : next + length (recordLine h r) ≤ length now
+    pub written-room : next + length (recordLine h (s .form) r) ≤ length now
     written-room = rw e (omega (arith, l .room, written-length, l .written .next, simp length-append at (ap length (left-all (l .left) more))))
 
-    pub written-turn : {now2 : List ℕ} {next2 : ℕ} → Written now next (recordLine h r) now2 next2 → LinesWritten h s before at (k + 1) now2 next2
+    pub written-turn : {now2 : List ℕ} {next2 : ℕ} → Written now next (recordLine h (s .form) r) now2 next2 → LinesWritten h s before at (k + 1) now2 next2
     written-turn w = record {
+      passed = l .passed;
       room = l .room;
       done = _;
-      left = left-turn (l .left) more;
+      left = left-turn (l .left) more (written-clear more);
       written = written-then (l .written) (rw e at w) (omega (arith, l .written .next, within));
     }
 
@@ -140,7 +140,7 @@ pub lines-long : (h : List ℕ) (s : Setting) {m k : ℕ} → m ≡ length (sett
     → m + k ≡ length (settingLine s ++ recordLines h s 1 (s .count))
 lines-long h s e f = rw (length-append, e, f)
 
-pub list-lines : (h out : List ℕ) {s : Setting} {n : ℕ} → n ≡ listRows h → n ≡ 0 → Passed h s
+pub list-lines : (h out : List ℕ) {s : Setting} {n : ℕ} → n ≡ listRows h → n ≡ 0 → s ≡ settingOf h
     → fitted out (settingLine s ++ recordLines h s 1 (s .count)) ≡ list h out
 unfolding list listText
-list-lines h out e z p = rw (sym e ∙ z, p .sound .setting)
+list-lines h out e z i = rw (sym e ∙ z, i)

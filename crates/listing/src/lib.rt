@@ -1,19 +1,28 @@
 // The list program's text: a line for the history and one for each of its records, or the first fault.
+use rules::Form;
 use rules::Record;
 use rules::Setting;
 ghost use mathlib.Core.Path.{_≡_};
 ghost use mathlib.Core.List.{List, _++_};
 ghost use Prim.Native.Nat.{ℕ, _+_, _≤_};
 ghost use lib.ListN.{length};
-ghost use Rattle.rules.specs.Listing.{decimal, yesNo, space, newline, refusedWord, settingLine, recordLine, recordLines, recordsRows, listRows, list};
+ghost use Rattle.rules.specs.Layout.{nameLimit};
+ghost use Rattle.rules.specs.Calls.{recordsRows};
+ghost use Rattle.rules.specs.Listing.{decimal, yesNo, space, newline, refusedWord, settingLine, recordLine, recordLines, list};
 ghost use Rattle.whole.specs.Sound.{Sound};
-ghost use Rattle.listing.specs.Written.{Written, Shown, Passed, listed, fitted};
+ghost use Rattle.listing.specs.Written.{Written, Shown, Passed, Counted, digitsMost, flagMost, settingMost, recordMost, refusedMost, textMost, listed, fitted};
+
+// A longer history than this counts as row 1.
+pub const LIST_LIMIT: usize = 65536;
+
+// A buffer of so many bytes holds every text: a line of at most 108 for the history, and 1,024 of at most 165 for the records.
+pub const LONGEST: usize = 169068;
 
 // ---- Numbers
 
 // How many digits a number has.
 fn decimal_length(n: u64) -> usize
-    ensures { λ r. ⌜ (r ≡ length (decimal n)) × (r ≤ 20) ⌝ }
+    ensures { λ r. ⌜ (r ≡ length (decimal n)) × (r ≤ digitsMost) ⌝ }
 {
     let mut left = n;
     let mut behind: usize = 0;
@@ -77,7 +86,7 @@ fn put_flag(out: &mut [u8], at: usize, word: &[u8], flag: bool) -> usize
 }
 
 fn flag_length(flag: bool) -> usize
-    ensures { λ r. ⌜ (r ≡ length (yesNo flag)) × (r ≤ 3) ⌝ }
+    ensures { λ r. ⌜ (r ≡ length (yesNo flag)) × (r ≤ flagMost) ⌝ }
 {
     if flag {
         return 3;
@@ -89,10 +98,10 @@ fn flag_length(flag: bool) -> usize
 
 // The words, the spaces about them and the newline are 42 bytes.
 fn setting_length(s: Setting) -> usize
-    ensures { λ r. ⌜ (r ≡ length (settingLine s)) × (r ≤ 108) ⌝ }
+    ensures { λ r. ⌜ (r ≡ length (settingLine s)) × (r ≤ settingMost) ⌝ }
 {
     42
-        + decimal_length(s.page)
+        + decimal_length(s.form.page)
         + decimal_length(s.original)
         + decimal_length(s.count)
         + flag_length(s.lock)
@@ -103,7 +112,7 @@ fn put_setting_line(out: &mut [u8], at: usize, s: Setting) -> usize
     requires { ⌜ at + length (settingLine s) ≤ length (now out) ⌝ }
     ensures { λ r. ⌜ Written (now (out .entry)) at (settingLine s) (now (out .exit)) r ⌝ }
 {
-    let page = put_number(out, at, b"pages ", s.page);
+    let page = put_number(out, at, b"pages ", s.form.page);
     let original = put_number(out, page, b" original ", s.original);
     let count = put_number(out, original, b" revisions ", s.count);
     let lock = put_flag(out, count, b" lock ", s.lock);
@@ -117,8 +126,8 @@ fn put_setting_line(out: &mut [u8], at: usize, s: Setting) -> usize
 // How long the line is, in every history that the record's time and name lie in. Five spaces, the time and the newline are 22
 // bytes, and the name is shown without its closing zero.
 fn record_length(r: Record) -> usize
-    requires { ⌜ (1 ≤ r .name) × (r .name ≤ 64) ⌝ }
-    ensures { λ n. ⌜ ((history : List ℕ) → Shown history r → n ≡ length (recordLine history r)) × (n ≤ 165) ⌝ }
+    requires { ⌜ (1 ≤ r .name) × (r .name ≤ nameLimit) ⌝ }
+    ensures { λ n. ⌜ ((history : List ℕ) (f : Form) → Shown history f r → n ≡ length (recordLine history f r)) × (n ≤ recordMost) ⌝ }
 {
     21
         + r.name as usize
@@ -137,13 +146,13 @@ fn put_numbers(out: &mut [u8], at: usize, word: &[u8], first: u64, second: u64) 
     put_number(out, next, b" ", second)
 }
 
-fn put_record_line(out: &mut [u8], at: usize, history: &[u8], r: Record) -> usize
-    requires { ⌜ (at + length (recordLine (now history) r) ≤ length (now out)) × Shown (now history) r ⌝ }
-    ensures { λ e. ⌜ Written (now (out .entry)) at (recordLine (now (history .entry)) r) (now (out .exit)) e ⌝ }
+fn put_record_line(out: &mut [u8], at: usize, history: &[u8], form: Form, r: Record) -> usize
+    requires { ⌜ (at + length (recordLine (now history) form r) ≤ length (now out)) × Shown (now history) form r ⌝ }
+    ensures { λ e. ⌜ Written (now (out .entry)) at (recordLine (now (history .entry)) form r) (now (out .exit)) e ⌝ }
 {
-    let time = r.address as usize + 24;
+    let time = records::time_at(r);
     let time_end = time + 16;
-    let name = r.address as usize + 72 + 24 * r.entries as usize;
+    let name = records::name_at(form, r);
     let name_end = name + (r.name as usize - 1);
     let next = put_numbers(out, at, b"", r.revision, r.parent);
     let next = put_text(out, next, b" ", &history[time..time_end]);
@@ -155,64 +164,48 @@ fn put_record_line(out: &mut [u8], at: usize, history: &[u8], r: Record) -> usiz
 
 // ---- Rows
 
-// Rows 7 and 8, record after record.
-fn records_rows(history: &[u8], s: Setting) -> u64
+// Records that rows 7 and 8 have judged: their number and, where it is 0, how long the records' lines are.
+struct Judged {
+    number: u64,
+    length: usize,
+}
+
+// Rows 7 and 8, record after record. The lines are counted on the way, so that no record is judged for that alone.
+fn judge_records(history: &[u8], s: Setting) -> Judged
     requires { ⌜ Sound (now history) s ⌝ }
-    ensures { λ r. ⌜ r ≡ recordsRows (now (history .entry)) s 1 (s .count) ⌝ }
-{
-    let mut k: u64 = 0;
-    while k < s.count {
-        k += 1;
-        let number = records::record_rows(history, s, k);
-        if number != 0 {
-            return number;
-        }
-    }
-    0
-}
-
-// The number of the first fault, 0 where there is none. Longer input than 65,536 bytes counts as 1.
-fn list_rows(history: &[u8]) -> u64
-    ensures { λ r. ⌜ r ≡ listRows (now (history .entry)) ⌝ }
-{
-    if 65536 < history.len() {
-        return 1;
-    }
-    let number = whole::history_rows(history);
-    if number != 0 {
-        return number;
-    }
-    let s = whole::setting(history);
-    records_rows(history, s)
-}
-
-// ---- The records' lines
-
-// A line is at most 165 bytes long, and there are at most 1,024.
-fn records_length(history: &[u8], s: Setting) -> usize
-    requires { ⌜ Passed (now history) s ⌝ }
-    ensures { λ n. ⌜ (n ≡ length (recordLines (now (history .entry)) s 1 (s .count))) × (n ≤ 168960) ⌝ }
+    ensures number { λ j. ⌜ j .number ≡ recordsRows (now (history .entry)) s 1 (s .count) ⌝ }
+    ensures counted { λ j. ⌜ (j .number ≡ 0 → Counted (now (history .entry)) s (j .length)) ⌝ }
 {
     let mut length: usize = 0;
     let mut k: u64 = 0;
     while k < s.count {
         k += 1;
-        let r = records::record_of(history, s, k);
-        length += record_length(r);
+        let judged = records::judge(history, s, k);
+        if judged.number != 0 {
+            return Judged {
+                number: judged.number,
+                length: 0,
+            };
+        }
+        length += record_length(judged.record);
     }
-    length
+    Judged { number: 0, length }
 }
 
+// ---- The records' lines
+
+// Each record is judged once more, since there is no room to keep all of them until the text is known to fit.
 fn put_record_lines(out: &mut [u8], at: usize, history: &[u8], s: Setting) -> usize
     requires { ⌜ (at + length (recordLines (now history) s 1 (s .count)) ≤ length (now out)) × Passed (now history) s ⌝ }
     ensures { λ e. ⌜ Written (now (out .entry)) at (recordLines (now (history .entry)) s 1 (s .count)) (now (out .exit)) e ⌝ }
 {
+    let form = s.form;
     let mut next = at;
     let mut k: u64 = 0;
     while k < s.count {
         k += 1;
-        let r = records::record_of(history, s, k);
-        next = put_record_line(out, next, history, r);
+        let judged = records::judge(history, s, k);
+        next = put_record_line(out, next, history, form, judged.record);
     }
     next
 }
@@ -222,7 +215,7 @@ fn put_record_lines(out: &mut [u8], at: usize, history: &[u8], s: Setting) -> us
 // Writes a refusal where there is room for it, and answers its length.
 fn list_refused(out: &mut [u8], number: u64) -> usize
     ensures text { λ r. ⌜ listed r (now (out .exit)) ≡ fitted (now (out .entry)) (refusedWord ++ decimal number ++ newline) ⌝ }
-    ensures short { λ r. ⌜ r ≤ 29 ⌝ }
+    ensures short { λ r. ⌜ r ≤ refusedMost ⌝ }
 {
     let length = 9 + decimal_length(number);
     if out.len() < length {
@@ -234,12 +227,12 @@ fn list_refused(out: &mut [u8], number: u64) -> usize
 }
 
 // Writes the lines where there is room for all of them, and answers their length.
-fn list_passed(history: &[u8], out: &mut [u8], s: Setting) -> usize
-    requires { ⌜ Passed (now history) s ⌝ }
+fn list_passed(history: &[u8], out: &mut [u8], s: Setting, records: usize) -> usize
+    requires { ⌜ Passed (now history) s × Counted (now history) s records ⌝ }
     ensures text { λ r. ⌜ listed r (now (out .exit)) ≡ fitted (now (out .entry)) (settingLine s ++ recordLines (now (history .entry)) s 1 (s .count)) ⌝ }
-    ensures short { λ r. ⌜ r ≤ 169068 ⌝ }
+    ensures short { λ r. ⌜ r ≤ textMost ⌝ }
 {
-    let total = setting_length(s) + records_length(history, s);
+    let total = setting_length(s) + records;
     if out.len() < total {
         return total;
     }
@@ -249,15 +242,22 @@ fn list_passed(history: &[u8], out: &mut [u8], s: Setting) -> usize
 }
 
 // Lays the list program's text over the start of a buffer, where there is room for all of it. The answer is the text's length
-// either way. A buffer of 169,068 bytes holds every text.
+// either way.
 pub fn list(history: &[u8], out: &mut [u8]) -> usize
     ensures text { λ r. ⌜ listed r (now (out .exit)) ≡ list (now (history .entry)) (now (out .entry)) ⌝ }
-    ensures short { λ r. ⌜ r ≤ 169068 ⌝ }
+    ensures short { λ r. ⌜ r ≤ textMost ⌝ }
 {
-    let number = list_rows(history);
-    if number != 0 {
-        return list_refused(out, number);
+    if LIST_LIMIT < history.len() {
+        return list_refused(out, 1);
     }
-    let s = whole::setting(history);
-    list_passed(history, out, s)
+    let whole = whole::judge(history);
+    if whole.number != 0 {
+        return list_refused(out, whole.number);
+    }
+    let setting = whole.setting;
+    let records = judge_records(history, setting);
+    if records.number != 0 {
+        return list_refused(out, records.number);
+    }
+    list_passed(history, out, setting, records.length)
 }

@@ -1,29 +1,27 @@
 -- Where a looked-up page lies, as the code finds it.
-use mathlib.Core.Path.{_≡_, refl, sym, ap, _∙_}
-use mathlib.Core.Bool.{Bool, true, false, not, cond, _&&_, _||_, true≢false, or-false}
-use mathlib.Core.List.{List, [], _∷_}
-use Prim.Native.Nat.{ℕ, zero, suc, _+_, _*_, _-_, _%_, _≤_, _<_, min, max}
+use mathlib.Core.Path.{_≡_, refl, sym, _∙_}
+use mathlib.Core.Bool.{Bool, true, false, not, cond, _||_, true≢false}
+use mathlib.Core.List.{List}
+use Prim.Native.Nat.{ℕ, _+_, _-_, _%_, _≤_, _<_, max}
 use native.Mathlib.Omega.{arith}
-use lib.Dec.{leb, ltb, eqb}
+use lib.Dec.{leb, eqb}
 use lib.ListN.{length, take, drop}
 use borrow.Author.Tests.{lt-ltb, le-ltb, leb-false, eq-eqb, ne-eqb}
 use Rattle.rules.specs.Bytes.{part}
-use Rattle.rules.specs.Layout.{settingOf, recordOf, indexOf, entryAt}
-use Rattle.rules.specs.View.{placeOf, logicals, hasPage, entryOf}
-use Rattle.rules.specs.Rows.{lookUpOutside, notInOriginal, pageSumWrong, pagesWrong}
-use Rattle.rules.specs.Calls.{row, _then_, accepted, asked, lookUpRows, foundPage, lookUp}
+use Rattle.rules.specs.Layout.{entriesWidth, entryAt, entriesIn}
+use Rattle.rules.specs.View.{placeOf, logicals}
+use Rattle.rules.specs.Rows.{lookUpOutside, notInOriginal, pageWrong}
+use Rattle.rules.specs.Calls.{row, _then_, asked, revisionRows, foundLength, pageRows, foundPage, notFound, lookUp}
 use Rattle.rules.specs.declared.Setting.{Setting}
 use Rattle.rules.specs.declared.Record.{Record}
+use Rattle.rules.specs.declared.Index.{Index}
 use Rattle.rules.specs.declared.Entry.{Entry}
 use Rattle.rules.specs.declared.Found.{Found}
-use Rattle.rules.proofs.Rows.{then-assoc, rows-hold, rows-past}
-use Rattle.rules.proofs.Index.{length-logicals-entries}
+use Rattle.rules.proofs.Rows.{rows-hold, left-alone}
+use Rattle.rules.proofs.Range.{page-there, page-missing, entry-there}
+use Rattle.records.specs.Sound.{Standing, indexIn}
 use Rattle.records.proofs.Fields.{index-there}
-use Rattle.view.specs.Seen.{Seen, indexIn}
-use Rattle.view.specs.declared.View.{View}
-use Rattle.view.proofs.Pages.{page-there, entry-there, page-room}
-use Rattle.reading.specs.Revision.{revisionRows, viewOf}
-use Rattle.lookup.specs.Lies.{Lies, refusedWith, foundIn, pageAt}
+use Rattle.lookup.specs.Lies.{Lies, lookUpIn, pageAt}
 
 pub outside-clear : (p size at : ℕ) → lookUpOutside p size at ≡ false → at < size
 unfolding lookUpOutside
@@ -33,67 +31,43 @@ outside-clear p size at e = go (leb size at) refl e
     go true q f = absurd (true≢false f)
     go false q f = leb-false size at q
 
--- ---- Rows 10, 20 and 9
+-- ---- Rows 10, 20 and 9, and the place
 
-module _ (o h : List ℕ) (v : View) (size at : ℕ) where
-  pub found-outside : {f : Found} {b : Bool} → b ≡ lookUpOutside (v .page) size at → b ≡ true → f ≡ refusedWith 10 → f ≡ foundIn o h v size at
-  unfolding foundIn row _then_
-  found-outside e t q = q ∙ rw (sym e ∙ t)
+module _ (o h : List ℕ) (x : Index) (size at : ℕ) {b : Bool} (e : b ≡ lookUpOutside (x .form .page) size at) where
+  pub found-outside : {f : Found} → b ≡ true → f ≡ notFound 10 → f ≡ lookUpIn o h x size at
+  unfolding pageRows row _then_
+  found-outside t q = q ∙ rw (sym e ∙ t)
 
-  module _ {b : Bool} {place n : ℕ} (e : b ≡ lookUpOutside (v .page) size at) (z : b ≡ false) (ep : place ≡ placeOf at (logicals (indexIn h v))) (en : n ≡ min (v .page) (size - at)) where
-    missing : v .entries ≤ place → hasPage (indexIn h v) at ≡ false
-    missing l = rw (← ep, length-logicals-entries h (v .index) (v .entries)) (le-ltb place (v .entries) l)
+  module _ {place n : ℕ} (z : b ≡ false) (ep : place ≡ placeOf at (logicals (entriesIn h x))) (en : n ≡ foundLength (x .form .page) size at) where
+    pub found-nowhere : {f : Found} → x .entries ≤ place → length o < at + n → f ≡ notFound 20 → f ≡ lookUpIn o h x size at
+    unfolding pageRows row _then_ notInOriginal
+    found-nowhere l k q = q ∙ rw (sym e ∙ z, page-missing h x at ep l, ← en, lt-ltb (length o) (at + n) k)
 
-    pub found-nowhere : {f : Found} → v .entries ≤ place → length o < at + n → f ≡ refusedWith 20 → f ≡ foundIn o h v size at
-    unfolding foundIn row _then_ notInOriginal
-    found-nowhere l k q = q ∙ rw (sym e ∙ z, missing l, ← en, lt-ltb (length o) (at + n) k)
+    pub found-original : x .entries ≤ place → at + n ≤ length o → _≡_ {A = Found} (record { number = 0; source = 0; offset = at; length = n }) (lookUpIn o h x size at)
+    unfolding pageRows foundPage row _then_ notInOriginal pageWrong
+    found-original l k = rw (sym e ∙ z, page-missing h x at ep l, ← en, le-ltb (length o) (at + n) k)
 
-    pub found-original : v .entries ≤ place → at + n ≤ length o → _≡_ {A = Found} (record { number = 0; source = 0; offset = at; length = n }) (foundIn o h v size at)
-    unfolding foundIn row _then_ notInOriginal pagesWrong placeOf
-    found-original l k = rw (sym e ∙ z, missing l, ← en, le-ltb (length o) (at + n) k)
+    module _ (l : place < x .entries) {w : Bool} (g : w ≡ pageWrong h (x .form .page) (entriesIn h x) at) where
+      pub found-damaged : {f : Found} → w ≡ true → f ≡ notFound 9 → f ≡ lookUpIn o h x size at
+      unfolding pageRows row _then_ notInOriginal
+      found-damaged t q = q ∙ rw (sym e ∙ z, page-there h x at ep l, sym g ∙ t)
 
-    pub found-damaged : {f : Found} {w : Bool} → place < v .entries → w ≡ hasPage (indexIn h v) at && pageSumWrong h (v .page) (entryOf (indexIn h v) at) → w ≡ true
-        → f ≡ refusedWith 9 → f ≡ foundIn o h v size at
-    unfolding foundIn row _then_ notInOriginal pagesWrong placeOf
-    found-damaged l g t q =
-        let p = page-there h v at ep l in
-        let u : pageSumWrong h (v .page) (entryOf (indexIn h v) at) ≡ true = sym (g ∙ rw p) ∙ t in
-        q ∙ rw (sym e ∙ z, p, u)
-
-    pub found-stored : {w : Bool} {x : Entry} → place < v .entries → w ≡ hasPage (indexIn h v) at && pageSumWrong h (v .page) (entryOf (indexIn h v) at) → w ≡ false
-        → x ≡ entryAt h (v .index + 24 * place) → _≡_ {A = Found} (record { number = 0; source = 1; offset = x .physical; length = n }) (foundIn o h v size at)
-    unfolding foundIn row _then_ notInOriginal pagesWrong placeOf
-    found-stored l g t q =
-        let p = page-there h v at ep l in
-        let u : pageSumWrong h (v .page) (entryOf (indexIn h v) at) ≡ false = sym (g ∙ rw p) ∙ t in
-        rw (q ∙ entry-there h v at ep l, sym e ∙ z, p, u, ← en)
-
-    pub stored-lies : {x : Entry} → Seen h v → place < v .entries → x ≡ entryAt h (v .index + 24 * place) → x .physical + n ≤ length h
-    stored-lies w l q = omega (arith, page-room h v at ep w l q)
+      pub found-stored : {y : Entry} → w ≡ false → y ≡ entryAt (x .form) h (x .at + entriesWidth (x .form) place)
+          → _≡_ {A = Found} (record { number = 0; source = 1; offset = y .physical; length = n }) (lookUpIn o h x size at)
+      unfolding pageRows foundPage row _then_ notInOriginal
+      found-stored t q = rw (q ∙ entry-there h x at ep l, sym e ∙ z, page-there h x at ep l, sym g ∙ t, ← en)
 
 -- ---- The whole call
 
 module _ (o h : List ℕ) (revision at : ℕ) where
-  look-split : lookUpRows o h revision at
-      ≡ revisionRows o h revision
-      then (row 10 (lookUpOutside (settingOf h .page) (recordOf h (settingOf h) (asked (settingOf h) revision) .logical) at)
-      then (row 20 (notInOriginal (length o) (indexOf h (recordOf h (settingOf h) (asked (settingOf h) revision))) at (min (settingOf h .page) (recordOf h (settingOf h) (asked (settingOf h) revision) .logical - at)))
-      then row 9 (pagesWrong [] h (settingOf h .page) (indexOf h (recordOf h (settingOf h) (asked (settingOf h) revision))) (at ∷ []))))
-  unfolding lookUpRows revisionRows
-  look-split = simp then-assoc
-
-  refused-is : (n m : ℕ) (x : Found) → (n ≡ 0 → ⊥) → n ≡ m → refusedWith n ≡ accepted m x (refusedWith m)
-  refused-is zero m x f e = absurd (f refl)
-  refused-is (suc n) m x f e = rw (← e)
-
-  pub look-refused : {k : ℕ} {f : Found} → k ≡ revisionRows o h revision → (k ≡ 0 → ⊥) → f ≡ refusedWith k → f ≡ lookUp o h revision at
+  pub look-refused : {k : ℕ} {f : Found} → k ≡ revisionRows o h revision → (k ≡ 0 → ⊥) → f ≡ notFound k → f ≡ lookUp o h revision at
   unfolding lookUp
-  look-refused {k} e n q = q ∙ refused-is k (lookUpRows o h revision at) (foundPage h revision at) n (rw look-split (rows-hold _ _ e n))
+  look-refused {k} e n q = q ∙ rw (← rows-hold _ k e n) (left-alone k _ (notFound k) n)
 
-  pub look-found : {s : Setting} {r : Record} {v : View} {k : ℕ} {f : Found} → s ≡ settingOf h → r ≡ recordOf h s (asked s revision) → v ≡ viewOf s r
-      → k ≡ revisionRows o h revision → k ≡ 0 → f ≡ foundIn o h v (r .logical) at → f ≡ lookUp o h revision at
-  unfolding lookUp foundIn foundPage viewOf _then_
-  look-found {s} {r} es er ev ek z q = q ∙ rw (ev, index-there h r, look-split, sym ek ∙ z, er, es)
+  pub look-found : {s : Setting} {r : Record} {x : Index} {k : ℕ} {f : Found} → Standing h s (asked s revision) r → x ≡ indexIn s r
+      → k ≡ revisionRows o h revision → k ≡ 0 → f ≡ lookUpIn o h x (r .logical) at → f ≡ lookUp o h revision at
+  unfolding lookUp indexIn _then_
+  look-found {s} {r} w ex ek z q = q ∙ rw (ex, index-there h s r, sym ek ∙ z, w .found, w .sound .setting)
 
 -- ---- The page as a part
 
@@ -101,7 +75,7 @@ page-part : (xs : List ℕ) (at n : ℕ) → take (at + n - at) (drop at xs) ≡
 page-part xs at n = let e : at + n - at ≡ n = omega arith in rw e
 
 -- A refusal names the empty part at the original's start.
-pub refused-lies : (o h : List ℕ) (number : ℕ) {f : Found} → f ≡ refusedWith number → Lies o h f
+pub refused-lies : (o h : List ℕ) (number : ℕ) {f : Found} → f ≡ notFound number → Lies o h f
 refused-lies o h number e = rw e (record { within = omega arith })
 
 module _ (o h : List ℕ) {f : Found} (w : Lies o h f) where
@@ -118,21 +92,12 @@ module _ (o h : List ℕ) {f : Found} (w : Lies o h f) where
   pub lies-original : (f .source ≡ 1 → ⊥) → f .offset + f .length ≤ length o
   lies-original e = rw (ne-eqb (f .source) 1 e) at (w .within)
 
--- What is chosen by the source.
-pub chosen-history : {A : Type 0} {f l : Found} (a b : A) → f ≡ l → f .source ≡ 1 → a ≡ cond (eqb (l .source) 1) a b
-chosen-history {A} {f} {l} a b e s = rw (← e, eq-eqb (f .source) 1 s)
+-- What is handed back: the page's bytes, the slice they lie in, and where in it.
+module _ (o h : List ℕ) {f l : Found} (e : f ≡ l) (a b i j : ℕ) where
+  pub part-history : f .source ≡ 1
+      → (take (f .offset + f .length - f .offset) (drop (f .offset) h) ≡ pageAt o h l) × (a ≡ cond (eqb (l .source) 1) a b) × (f .offset + i ≡ cond (eqb (l .source) 1) i j + l .offset)
+  part-history s = rw (← e, eq-eqb (f .source) 1 s) (page-part h (f .offset) (f .length), refl, omega arith)
 
-pub chosen-original : {A : Type 0} {f l : Found} (a b : A) → f ≡ l → (f .source ≡ 1 → ⊥) → b ≡ cond (eqb (l .source) 1) a b
-chosen-original {A} {f} {l} a b e s = rw (← e, ne-eqb (f .source) 1 s)
-
-pub start-history : {f l : Found} (a b : ℕ) → f ≡ l → f .source ≡ 1 → f .offset + a ≡ cond (eqb (l .source) 1) a b + l .offset
-start-history {f} {l} a b e s = rw (← e, eq-eqb (f .source) 1 s) (omega arith)
-
-pub start-original : {f l : Found} (a b : ℕ) → f ≡ l → (f .source ≡ 1 → ⊥) → f .offset + b ≡ cond (eqb (l .source) 1) a b + l .offset
-start-original {f} {l} a b e s = rw (← e, ne-eqb (f .source) 1 s) (omega arith)
-
-pub page-history : (o h : List ℕ) {f l : Found} → f ≡ l → f .source ≡ 1 → take (f .offset + f .length - f .offset) (drop (f .offset) h) ≡ pageAt o h l
-page-history o h {f} {l} e s = rw (← e, eq-eqb (f .source) 1 s) (page-part h (f .offset) (f .length))
-
-pub page-original : (o h : List ℕ) {f l : Found} → f ≡ l → (f .source ≡ 1 → ⊥) → take (f .offset + f .length - f .offset) (drop (f .offset) o) ≡ pageAt o h l
-page-original o h {f} {l} e s = rw (← e, ne-eqb (f .source) 1 s) (page-part o (f .offset) (f .length))
+  pub part-original : (f .source ≡ 1 → ⊥)
+      → (take (f .offset + f .length - f .offset) (drop (f .offset) o) ≡ pageAt o h l) × (b ≡ cond (eqb (l .source) 1) a b) × (f .offset + j ≡ cond (eqb (l .source) 1) i j + l .offset)
+  part-original s = rw (← e, ne-eqb (f .source) 1 s) (page-part o (f .offset) (f .length), refl, omega arith)

@@ -2,26 +2,26 @@
 use rules::Found;
 use view::View;
 ghost use mathlib.Core.Path.{_≡_};
-ghost use mathlib.Core.Bool.{cond};
-ghost use Prim.Native.Nat.{_+_, _-_, _≤_, min};
+ghost use mathlib.Core.Bool.{true, cond};
+ghost use Prim.Native.Nat.{_+_, _≤_};
 ghost use lib.Dec.{eqb};
-ghost use Rattle.rules.specs.View.{placeOf, logicals};
+ghost use Rattle.rules.specs.Layout.{pageAllowed, limit};
 ghost use Rattle.rules.specs.Rows.{lookUpOutside};
-ghost use Rattle.rules.specs.Calls.{lookUp};
-ghost use Rattle.view.specs.Seen.{Seen, indexIn};
-ghost use Rattle.lookup.specs.Lies.{Lies, refusedWith, foundIn, pageAt};
+ghost use Rattle.rules.specs.Calls.{foundLength, notFound, lookUp};
+ghost use Rattle.view.specs.Seen.{Seen};
+ghost use Rattle.lookup.specs.Lies.{Lies, lookUpIn, pageAt};
 
 // Row 10 of a look-up.
 fn look_up_outside(page: u64, size: u64, address: u64) -> bool
-    requires { ⌜ 16 ≤ page ⌝ }
+    requires { ⌜ pageAllowed page ≡ true ⌝ }
     ensures { λ r. ⌜ r ≡ lookUpOutside page size address ⌝ }
 {
-    (size <= address) | !(address % page == 0)
+    (size <= address) | !numbers::multiple(address, page)
 }
 
 fn found_length(page: u64, size: u64, address: u64) -> u64
     requires { ⌜ address ≤ size ⌝ }
-    ensures { λ r. ⌜ r ≡ min page (size - address) ⌝ }
+    ensures { λ r. ⌜ r ≡ foundLength page size address ⌝ }
 {
     if size - address < page {
         return size - address;
@@ -29,29 +29,31 @@ fn found_length(page: u64, size: u64, address: u64) -> u64
     page
 }
 
-// The place of a page in the index of a view; the count of its entries where it is not there.
-fn place_in(history: &[u8], v: View, address: u64) -> usize
-    requires { ⌜ Seen (now history) v ⌝ }
-    ensures { λ r. ⌜ (r ≡ placeOf address (logicals (indexIn (now (history .entry)) v))) × (r ≤ v .entries) ⌝ }
+fn refused(number: u64) -> Found
+    ensures { λ r. ⌜ r ≡ notFound number ⌝ }
 {
-    let index = v.index;
-    let entries = v.entries;
-    index::find(history, index, entries, address)
+    Found {
+        number,
+        source: 0,
+        offset: 0,
+        length: 0,
+    }
 }
 
 // Where the page lies, once rows 1 to 8 have passed: rows 10, 20 and 9, and then the place.
 fn found_in(original: &[u8], history: &[u8], v: View, size: u64, address: u64) -> Found
-    requires { ⌜ (Seen (now history) v) × (size ≤ 16777216) ⌝ }
-    ensures { λ r. ⌜ r ≡ foundIn (now (original .entry)) (now (history .entry)) v size address ⌝ }
+    requires { ⌜ (Seen (now history) v) × (size ≤ limit) ⌝ }
+    ensures { λ r. ⌜ r ≡ lookUpIn (now (original .entry)) (now (history .entry)) (v .index) size address ⌝ }
     ensures { λ r. ⌜ Lies (now (original .entry)) (now (history .entry)) r ⌝ }
 {
-    let page = v.page as u64;
+    let x = v.index;
+    let page = x.form.page;
     if look_up_outside(page, size, address) {
         return refused(10);
     }
     let length = found_length(page, size, address);
-    let place = place_in(history, v, address);
-    if v.entries <= place {
+    let place = index::find(history, x, address);
+    if x.entries <= place {
         if (original.len() as u64) < address + length {
             return refused(20);
         }
@@ -65,8 +67,7 @@ fn found_in(original: &[u8], history: &[u8], v: View, size: u64, address: u64) -
     if view::page_wrong(history, v, address) {
         return refused(9);
     }
-    let index = v.index;
-    let e = index::entry(history, index, place);
+    let e = index::entry(history, x, place);
     Found {
         number: 0,
         source: 1,
@@ -75,35 +76,22 @@ fn found_in(original: &[u8], history: &[u8], v: View, size: u64, address: u64) -
     }
 }
 
-fn refused(number: u64) -> Found
-    ensures { λ r. ⌜ r ≡ refusedWith number ⌝ }
-{
-    Found {
-        number,
-        source: 0,
-        offset: 0,
-        length: 0,
-    }
-}
-
 // Look-up 1 to 8, 10, 20, 9: the number, the source (0 the original, 1 the history), and where in it the page lies.
 pub fn look_up_place(original: &[u8], history: &[u8], revision: u64, address: u64) -> Found
     ensures { λ r. ⌜ r ≡ lookUp (now (original .entry)) (now (history .entry)) revision address ⌝ }
     ensures { λ r. ⌜ Lies (now (original .entry)) (now (history .entry)) r ⌝ }
 {
-    let number = reading::revision_rows(original, history, revision);
-    if number != 0 {
-        return refused(number);
+    let judged = revisions::judge(original, history, revision);
+    if judged.number != 0 {
+        return refused(judged.number);
     }
-    let s = whole::setting(history);
-    let r = records::record_of(history, s, revisions::asked(s, revision));
-    found_in(
-        original,
-        history,
-        reading::view_of(s, r),
-        r.logical,
-        address,
-    )
+    let r = judged.record;
+    let v = View {
+        index: records::index_in(judged.setting, r),
+        end: 0,
+        own: 0,
+    };
+    found_in(original, history, v, r.logical, address)
 }
 
 // The page itself, as a part of one of the two slices; the empty part at the original's start where it is refused.

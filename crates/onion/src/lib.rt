@@ -7,7 +7,6 @@ use rules::Step;
 use store::Answer;
 use store::Session;
 ghost use mathlib.Core.Path.{_≡_};
-ghost use lib.ListN.{length};
 ghost use Rattle.rules.specs.Checksum.{checksum};
 ghost use Rattle.rules.specs.Calls.{Reply, Outcome, create, openForWriting, write, commit, release, read, sessionRead, lookUp, check, browse, browseStep};
 

@@ -3,31 +3,29 @@ use mathlib.Core.Path.{_≡_, refl, sym, ap, _∙_}
 use mathlib.Core.Bool.{Bool, true, false, not}
 use mathlib.Core.List.{List}
 use Prim.Native.Nat.{ℕ, _≤_, _<_}
-use native.Mathlib.Omega.{arith}
 use borrow.Author.Tests.{le-leb, lt-leb, not-true, not-false}
 use Rattle.rules.specs.Bytes.{laid}
-use Rattle.rules.specs.Layout.{headerFront, headerBytes, settingWith, settingOf, withLock, flagsOf, recordOf}
+use Rattle.rules.specs.Layout.{revisionLimit, flagsOf, headerFront, headerBytes, settingWith, settingOf, withLock}
 use Rattle.rules.specs.Session.{ended, locked, opened, released}
 use Rattle.rules.specs.Rows.{revisionUnknown, lockSet, notNewest, full}
 use Rattle.rules.specs.Calls.{row, _then_, headerRows, bothRows, recordRows, asked, openRows, openForWriting, release}
 use Rattle.rules.specs.declared.Setting.{Setting}
 use Rattle.rules.specs.declared.Record.{Record}
 use Rattle.rules.specs.declared.State.{State}
-use Rattle.rules.proofs.Rows.{row-clear, then-clear, rows-hold, rows-past}
+use Rattle.rules.proofs.Rows.{rows-hold, rows-past}
 use Rattle.whole.specs.Sound.{Sound}
-use Rattle.whole.proofs.Sound.{both-sound}
-use Rattle.revisions.proofs.Known.{asked-stands}
+use Rattle.records.specs.Sound.{Standing}
 use Rattle.sessions.proofs.Answers.{answer-refused, answer-accepted}
 
 -- ---- The rows of opening
 
-pub full-holds : (s : Setting) → 1024 ≤ s .count → full s ≡ true
+pub full-holds : (s : Setting) → revisionLimit ≤ s .count → full s ≡ true
 unfolding full
-full-holds s h = le-leb 1024 (s .count) h
+full-holds s h = le-leb revisionLimit (s .count) h
 
-pub full-past : (s : Setting) → s .count < 1024 → full s ≡ false
+pub full-past : (s : Setting) → s .count < revisionLimit → full s ≡ false
 unfolding full
-full-past s h = lt-leb 1024 (s .count) h
+full-past s h = lt-leb revisionLimit (s .count) h
 
 module _ (o h : List ℕ) (revision : ℕ) where
   pub open-both : (n : ℕ) → n ≡ bothRows o h (settingOf h) → (n ≡ 0 → ⊥) → n ≡ openRows o h revision
@@ -35,23 +33,11 @@ module _ (o h : List ℕ) (revision : ℕ) where
   open-both n e f = rows-hold _ n e f
 
   -- The rows behind 1 to 5, of the setting that was read and the revision that is meant.
-  pub open-behind : {both n k : ℕ} {s : Setting} → both ≡ bothRows o h (settingOf h) → both ≡ 0 → s ≡ settingOf h → k ≡ asked s revision
+  pub open-behind : {both n k : ℕ} {s : Setting} → both ≡ bothRows o h (settingOf h) → both ≡ 0 → Sound h s → k ≡ asked s revision
       → n ≡ row 6 (revisionUnknown s revision) then row 11 (lockSet s) then row 12 (notNewest s k) then row 18 (full s) then recordRows h s k
       → n ≡ openRows o h revision
   unfolding openRows
-  open-behind e z q p r = rows-past _ e z (r ∙ rw (p, q))
-
-  -- What they leave.
-  pub open-sound : 0 ≡ openRows o h revision → Sound h (settingOf h)
-  unfolding openRows
-  open-sound e = both-sound o h (then-clear _ _ (sym e) .0) .0
-
-  pub open-known : {s : Setting} {k : ℕ} → 0 ≡ openRows o h revision → s ≡ settingOf h → k ≡ asked s revision → (k ≤ s .count) × (recordRows h s k ≡ 0)
-  unfolding openRows
-  open-known e q p =
-      let a = then-clear _ _ (then-clear _ _ (sym e) .1) in
-      let b = then-clear _ _ (then-clear _ _ (then-clear _ _ (a .1) .1) .1) in
-      rw (p, q) (asked-stands (settingOf h) revision (row-clear 6 _ (omega arith) (a .0)), b .1)
+  open-behind e z q p r = rows-past _ e z (r ∙ rw (p, q .setting))
 
   -- ---- The call
 
@@ -60,11 +46,13 @@ module _ (o h : List ℕ) (revision : ℕ) where
   unfolding openForWriting
   open-refused n e f q = answer-refused _ ended _ h n e f q
 
-  pub open-accepted : {k : ℕ} {s t : Setting} {r : Record} {st : State} {b : List ℕ} → 0 ≡ openRows o h revision → s ≡ settingOf h
-      → k ≡ asked s revision → r ≡ recordOf h s k → t ≡ withLock true s → b ≡ laid h 0 (headerBytes t) → st ≡ opened s k (r .logical)
+  pub open-accepted : {k : ℕ} {s t : Setting} {r : Record} {st : State} {b : List ℕ} → 0 ≡ openRows o h revision → Standing h s (asked s revision) r
+      → k ≡ asked s revision → t ≡ withLock true s → b ≡ laid h 0 (headerBytes t) → st ≡ opened s k (r .logical)
       → record { number = 0; session = st; bytes = b } ≡ openForWriting o h revision
   unfolding openForWriting locked
-  open-accepted e q p f g u v = answer-accepted _ ended _ h e (v ∙ rw (f, p, q)) (u ∙ rw (g, q))
+  open-accepted e w p g u v =
+      let q = w .sound .setting in
+      answer-accepted _ ended _ h e (v ∙ rw (w .found, p, q)) (u ∙ rw (g, q))
 
 -- ---- Release
 

@@ -1,22 +1,18 @@
 // Creation, opening for writing and release.
+use revisions::Judged;
+use rules::Form;
 use rules::Setting;
 use rules::State;
 use sessions::Answered;
 ghost use mathlib.Core.Path.{_≡_};
-ghost use mathlib.Core.List.{[]};
-ghost use Prim.Native.Nat.{_+_, _^_, _≤_, _<_};
+ghost use Prim.Native.Nat.{_≤_};
 ghost use lib.ListN.{length};
-ghost use Rattle.rules.specs.Bytes.{laid};
-ghost use Rattle.rules.specs.Layout.{wholeBytes, settingOf, withLock};
-ghost use Rattle.rules.specs.Session.{createdSetting, opened, released};
+ghost use Rattle.rules.specs.Layout.{headerWidth, settingOf, withLock};
+ghost use Rattle.rules.specs.Session.{createdForm, createdSetting, opened, released};
 ghost use Rattle.rules.specs.Rows.{creationWrong, notNewest};
-ghost use Rattle.rules.specs.Calls.{Reply, Outcome, create, openRows, openForWriting, release};
-
-const SIGNATURE: [u8; 4] = *b"OWHR";
-
-const VERSION: [u8; 4] = [1, 0, 0, 0];
-
-const LIMIT: u64 = 16777216;
+ghost use Rattle.rules.specs.Calls.{Reply, Outcome, asked, create, openRows, openForWriting, release};
+ghost use Rattle.layout.specs.Paged.{Paged, farthest};
+ghost use Rattle.records.specs.Sound.{Standing};
 
 // ---- Creation
 
@@ -24,49 +20,40 @@ const LIMIT: u64 = 16777216;
 fn creation_wrong(original: u64, page: u64) -> bool
     ensures { λ r. ⌜ r ≡ creationWrong original page ⌝ }
 {
-    !(header::page_allowed(page) & (original <= LIMIT))
+    !(header::page_allowed(page) & (original <= layout::LIMIT))
 }
 
 // What a new history says of itself: its whole history stands behind the header and is empty.
 fn created_setting(original: u64, page: u64, branching: bool) -> Setting
+    requires { ⌜ Paged (createdForm page) ⌝ }
     ensures { λ r. ⌜ r ≡ createdSetting original page branching ⌝ }
 {
+    let form = Form { page };
     Setting {
-        page,
+        form,
         original,
-        address: 40,
-        size: 20,
+        address: layout::header_end(form),
+        size: layout::whole_size(0),
         count: 0,
         lock: false,
         branching,
     }
 }
 
-// Stores the 20 bytes of an empty whole history behind the header. Its checksum is that of the 16 bytes that stand there by then.
-fn put_empty(history: &mut [u8])
-    requires { ⌜ 60 ≤ length (now history) ⌝ }
-    ensures { λ _. ⌜ now (history .exit) ≡ laid (now (history .entry)) 40 (wholeBytes 0 []) ⌝ }
-{
-    numbers::put_signature(history, 40, SIGNATURE);
-    numbers::put_signature(history, 44, VERSION);
-    numbers::put_u64(history, 48, 0);
-    let sum = checksum::fletcher32(&history[40..56]);
-    numbers::put_u32(history, 56, sum);
-}
-
-// Creates a history in 60 bytes. The header is stored last: until it stands, there is no history.
+// Creates a history. The header is stored last: until it stands, there is no history.
 pub fn create(history: &mut [u8], original: u64, page: u64, branching: bool) -> u64
     ensures { λ r. ⌜ _≡_ {A = Reply} (record { number = r; bytes = now (history .exit) })
         (create (now (history .entry)) original page branching) ⌝ }
 {
-    if header::length_wrong(60, history.len()) {
+    if header::length_wrong(layout::created_length(page), history.len()) {
         return 1;
     }
     if creation_wrong(original, page) {
         return 17;
     }
-    put_empty(history);
-    header::put_header(history, created_setting(original, page, branching));
+    let s = created_setting(original, page, branching);
+    whole::put_empty(history, s.form, s.address as usize);
+    header::put_header(history, s);
     0
 }
 
@@ -80,28 +67,35 @@ fn not_newest(s: Setting, k: u64) -> bool
 }
 
 // Rows 1 to 6, 11, 12, 18, 7, 8.
-fn open_rows(original: &[u8], history: &[u8], revision: u64) -> u64
-    ensures { λ r. ⌜ r ≡ openRows (now (original .entry)) (now (history .entry)) revision ⌝ }
+fn judge(original: &[u8], history: &[u8], revision: u64) -> Judged
+    ensures number { λ j. ⌜ j .number ≡ openRows (now (original .entry)) (now (history .entry)) revision ⌝ }
+    ensures standing { λ j. ⌜ (j .number ≡ 0 → Standing (now (history .entry)) (j .setting) (asked (j .setting) revision) (j .record)) ⌝ }
 {
-    let number = whole::both_rows(original, history);
-    if number != 0 {
-        return number;
+    let whole = whole::judge_both(original, history);
+    let setting = whole.setting;
+    if whole.number != 0 {
+        return revisions::refused(whole.number, setting);
     }
-    let s = whole::setting(history);
-    if revisions::revision_unknown(s, revision) {
-        return 6;
+    if revisions::revision_unknown(setting, revision) {
+        return revisions::refused(6, setting);
     }
-    if s.lock {
-        return 11;
+    if setting.lock {
+        return revisions::refused(11, setting);
     }
-    let k = revisions::asked(s, revision);
-    if not_newest(s, k) {
-        return 12;
+    let k = revisions::asked(setting, revision);
+    if not_newest(setting, k) {
+        return revisions::refused(12, setting);
     }
-    if 1024 <= s.count {
-        return 18;
+    if layout::REVISIONS <= setting.count {
+        return revisions::refused(18, setting);
     }
-    records::record_rows(history, s, k)
+    let parent = records::judge(history, setting, k);
+    let record = parent.record;
+    Judged {
+        number: parent.number,
+        setting,
+        record,
+    }
 }
 
 // The setting with its lock set or clear.
@@ -115,11 +109,12 @@ fn with_lock(s: Setting, lock: bool) -> Setting
 
 // The session that starts as a parent's view.
 fn opened(s: Setting, parent: u64, logical: u64) -> State
-    requires { ⌜ s .address + s .size < 2 ^ 64 ⌝ }
+    requires { ⌜ (Paged (s .form)) × (s .address ≤ farthest) × (s .size ≤ farthest) ⌝ }
     ensures { λ r. ⌜ r ≡ opened s parent logical ⌝ }
 {
+    let form = s.form;
     State {
-        end: s.address + s.size,
+        end: layout::end_of(form, s.address, s.size),
         count: s.count,
         parent,
         size: logical,
@@ -133,20 +128,19 @@ pub fn open_for_writing(original: &[u8], history: &mut [u8], revision: u64) -> A
     ensures { λ r. ⌜ _≡_ {A = Outcome} (record { number = r .number; session = r .session; bytes = now (history .exit) })
         (openForWriting (now (original .entry)) (now (history .entry)) revision) ⌝ }
 {
-    let refusal = open_rows(original, history, revision);
-    if refusal != 0 {
+    let judged = judge(original, history, revision);
+    if judged.number != 0 {
         return Answered {
-            number: refusal,
+            number: judged.number,
             session: sessions::ended(),
         };
     }
-    let s = whole::setting(history);
+    let s = judged.setting;
     let k = revisions::asked(s, revision);
-    let parent = records::record_of(history, s, k);
     header::put_header(history, with_lock(s, true));
     Answered {
         number: 0,
-        session: opened(s, k, parent.logical),
+        session: opened(s, k, judged.record.logical),
     }
 }
 
@@ -154,7 +148,7 @@ pub fn open_for_writing(original: &[u8], history: &mut [u8], revision: u64) -> A
 
 // Clears the lock. A history that is not locked is left as it is.
 fn unlock(history: &mut [u8])
-    requires { ⌜ 40 ≤ length (now history) ⌝ }
+    requires { ⌜ headerWidth ≤ length (now history) ⌝ }
     ensures { λ _. ⌜ now (history .exit) ≡ released (now (history .entry)) (settingOf (now (history .entry))) ⌝ }
 {
     let s = header::setting_with(history, 0);

@@ -2,11 +2,8 @@
 use mathlib.Core.Path.{_≡_, sym, _∙_}
 use mathlib.Core.List.{List}
 use Prim.Native.Nat.{ℕ}
-use lib.ListN.{length}
-use Rattle.rules.specs.Calls.{accepted, readRows, readBytes}
+use Rattle.rules.specs.Calls.{Reply, read}
 
-pub read-determined : (original history : List ℕ) (revision at : ℕ) (out : List ℕ) {answer answer' : ℕ} {bytes bytes' : List ℕ}
-    → answer ≡ readRows original history revision at (length out) → answer' ≡ readRows original history revision at (length out)
-    → bytes ≡ accepted answer (readBytes original history revision at (length out)) out
-    → bytes' ≡ accepted answer' (readBytes original history revision at (length out)) out → (answer ≡ answer') × (bytes ≡ bytes')
-read-determined original history revision at out a b p q = (a ∙ sym b, p ∙ rw (a ∙ sym b) (sym q))
+pub read-determined : (original history : List ℕ) (revision at : ℕ) (out : List ℕ) {one other : Reply} → one ≡ read original history revision at out
+    → other ≡ read original history revision at out → one ≡ other
+read-determined original history revision at out a b = a ∙ sym b

@@ -1,36 +1,18 @@
-// Reading a revision, and looking up one of its pages.
-use rules::Found;
-use rules::Record;
-use rules::Setting;
+// Reading a revision. A revision is read as a session that has touched no page, so what both have in common stands here.
 use view::View;
 ghost use mathlib.Core.Path.{_≡_};
-ghost use Prim.Native.Nat.{_≤_};
-ghost use lib.ListN.{length};
-ghost use Rattle.rules.specs.Layout.{settingOf, recordOf};
-ghost use Rattle.rules.specs.Rows.{readOutside};
-ghost use Rattle.rules.specs.Calls.{accepted, asked, readRows, readBytes};
-ghost use Rattle.reading.specs.Revision.{revisionRows, viewOf};
+ghost use Prim.Native.Nat.{_+_, _≤_};
+ghost use lib.ListN.{length, take};
+ghost use Rattle.rules.specs.Layout.{limit, entriesIn};
+ghost use Rattle.rules.specs.View.{pagesShared};
+ghost use Rattle.rules.specs.Rows.{readOutside, pagesWrong};
+ghost use Rattle.rules.specs.Calls.{Reply, row, _then_, read};
+ghost use Rattle.view.specs.Seen.{Seen};
 
-// A revision is read as a session that has touched no page.
 const NO_PAGES: [u32; 1] = [0];
 
-// Rows 1 to 8, which read and look-up begin with.
-pub fn revision_rows(original: &[u8], history: &[u8], revision: u64) -> u64
-    ensures { λ r. ⌜ r ≡ revisionRows (now (original .entry)) (now (history .entry)) revision ⌝ }
-{
-    let number = whole::both_rows(original, history);
-    if number != 0 {
-        return number;
-    }
-    let s = whole::setting(history);
-    if revisions::revision_unknown(s, revision) {
-        return 6;
-    }
-    records::record_rows(history, s, revisions::asked(s, revision))
-}
-
 // Row 10 of a read. The offset may be any number, so no sum is made.
-pub fn read_outside(size: u64, at: u64, n: u64) -> bool
+fn read_outside(size: u64, at: u64, n: u64) -> bool
     ensures { λ r. ⌜ r ≡ readOutside size at n ⌝ }
 {
     if size < at {
@@ -39,34 +21,17 @@ pub fn read_outside(size: u64, at: u64, n: u64) -> bool
     size - at < n
 }
 
-// Where a record's index and pages stand.
-pub fn view_of(s: Setting, r: Record) -> View
-    requires { ⌜ (s .page ≤ 4096) × (r .entries ≤ 4096) × (r .address ≤ 16777216) ⌝ }
-    ensures { λ v. ⌜ v ≡ viewOf s r ⌝ }
+// Rows 10 and 9 of a read of n bytes from an offset on, by the logical size and the view of what is read.
+pub fn range_rows(history: &[u8], v: View, pages: &[u32], size: u64, at: u64, n: usize) -> u64
+    requires { ⌜ (Seen (now history) v) × (v .own ≤ length (now pages)) × (size ≤ limit) ⌝ }
+    ensures number { λ r. ⌜ r ≡ row 10 (readOutside size at n)
+        then row 9 (pagesWrong (take (v .own) (now (pages .entry))) (now (history .entry)) (v .index .form .page) (entriesIn (now (history .entry)) (v .index)) (pagesShared (v .index .form .page) at n)) ⌝ }
+    ensures inside { λ r. ⌜ (r ≡ 0 → at + n ≤ size) ⌝ }
 {
-    View {
-        page: s.page as usize,
-        index: records::index_at(r),
-        entries: r.entries as usize,
-        end: 0,
-        own: 0,
-    }
-}
-
-// Read of a revision 1 to 8, 10, 9. What was judged is read again, and not handed on.
-fn read_rows(original: &[u8], history: &[u8], revision: u64, at: u64, n: usize) -> u64
-    ensures { λ r. ⌜ r ≡ readRows (now (original .entry)) (now (history .entry)) revision at n ⌝ }
-{
-    let number = revision_rows(original, history, revision);
-    if number != 0 {
-        return number;
-    }
-    let s = whole::setting(history);
-    let r = records::record_of(history, s, revisions::asked(s, revision));
-    if read_outside(r.logical, at, n as u64) {
+    if read_outside(size, at, n as u64) {
         return 10;
     }
-    if view::range_wrong(history, view_of(s, r), &NO_PAGES, at as usize, n) {
+    if view::range_wrong(history, v, pages, at as usize, n) {
         return 9;
     }
     0
@@ -74,22 +39,23 @@ fn read_rows(original: &[u8], history: &[u8], revision: u64, at: u64, n: usize) 
 
 // Reads the bytes of a revision from an offset on into a buffer, which it fills entirely. A refusal leaves the buffer alone.
 pub fn read(original: &[u8], history: &[u8], revision: u64, at: u64, out: &mut [u8]) -> u64
-    ensures number { λ r. ⌜ r ≡ readRows (now (original .entry)) (now (history .entry)) revision at (length (now (out .entry))) ⌝ }
-    ensures bytes { λ r. ⌜ now (out .exit) ≡ accepted r (readBytes (now (original .entry)) (now (history .entry)) revision at (length (now (out .entry)))) (now (out .entry)) ⌝ }
+    ensures { λ r. ⌜ _≡_ {A = Reply} (record { number = r; bytes = now (out .exit) })
+        (read (now (original .entry)) (now (history .entry)) revision at (now (out .entry))) ⌝ }
 {
-    let number = read_rows(original, history, revision, at, out.len());
+    let judged = revisions::judge(original, history, revision);
+    if judged.number != 0 {
+        return judged.number;
+    }
+    let r = judged.record;
+    let v = View {
+        index: records::index_in(judged.setting, r),
+        end: 0,
+        own: 0,
+    };
+    let number = range_rows(history, v, &NO_PAGES, r.logical, at, out.len());
     if number != 0 {
         return number;
     }
-    let s = whole::setting(history);
-    let r = records::record_of(history, s, revisions::asked(s, revision));
-    view::put_view(
-        out,
-        original,
-        history,
-        view_of(s, r),
-        &NO_PAGES,
-        at as usize,
-    );
+    view::put_view(out, original, history, v, &NO_PAGES, at as usize);
     0
 }

@@ -1,1 +1,2 @@
-pub mod Lying
+pub mod Sound
+pub mod Front

@@ -5,10 +5,21 @@ use mathlib.Core.List.{List, [], _∷_, _++_}
 use Prim.Native.Nat.{ℕ, _+_}
 use lib.Dec.{eqb}
 use lib.ListN.{length, getD, replicate}
-use Rattle.rules.specs.Bytes.{byteAt, part, valueOf, numberBytes, laid, tabulate, same}
+use Rattle.rules.specs.Bytes.{byteAt, valueOf, numberBytes, laid, tabulate}
 use Rattle.rules.specs.Checksum.{checksum}
 use Rattle.rules.specs.Layout.{
   pageAllowed,
+  endOf,
+  version,
+  addressAt,
+  addressBytes,
+  pageSumAt,
+  pageSumBytes,
+  entrySumAt,
+  entriesWidth,
+  userBytes,
+  entryCountAt,
+  startBytes,
   summed,
   sumStands,
   sumsStand,
@@ -23,6 +34,7 @@ use Rattle.rules.specs.Layout.{
   entryBytes,
   indexBytes,
   entriesAt,
+  frontBytes,
   recordBytes,
   recordAt,
   recordOf,
@@ -30,13 +42,13 @@ use Rattle.rules.specs.Layout.{
   timeRight,
   textRight,
 }
-use Rattle.rules.specs.View.{placeOf, noEntry, ownAddress, revisionByte, sessionByte, pagesFrom, pagesIn}
+use Rattle.rules.specs.View.{placeOf, noEntry, ownAddress, revisionByte, shownByte, pagesFrom, pagesIn}
 use Rattle.rules.specs.Session.{
   created,
   locked,
-  released,
   firstCopy,
   touched,
+  overPage,
   laidOnPage,
   writtenPages,
   written,
@@ -54,12 +66,14 @@ use Rattle.rules.specs.Rows.{
   originalWrong,
   wholeWrong,
   revisionUnknown,
+  entryRight,
   entriesRight,
   recordLies,
   recordFields,
   recordWrong,
   recordSumWrong,
   pageSumWrong,
+  pageWrong,
   pagesWrong,
   readOutside,
   writeOutside,
@@ -84,6 +98,9 @@ use Rattle.rules.specs.Calls.{
   recordRows,
   sessionRows,
   asked,
+  revisionRows,
+  beginRows,
+  heldRows,
   createRows,
   create,
   readRows,
@@ -96,19 +113,8 @@ use Rattle.rules.specs.Calls.{
   commitRows,
   commit,
 }
-use Rattle.rules.specs.Listing.{
-  recordsRows,
-  listRows,
-  decimalWithin,
-  settingLine,
-  recordLine,
-  recordLines,
-  listText,
-}
-use Rattle.rules.specs.declared.Setting.{Setting}
 use Rattle.rules.specs.declared.Record.{Record}
 use Rattle.rules.specs.declared.Entry.{Entry}
-use Rattle.rules.specs.declared.State.{State}
 
 -- A line of the table: a number worked out by the rules, and the one that the paper gives.
 pub record Line : Type 0 where
@@ -170,7 +176,7 @@ abbrev pub recordIn : List ℕ → ℕ → Record
 recordIn bytes k = recordOf bytes (settingOf bytes) k
 
 unfoldable pub secondIndex : List Entry
-secondIndex = indexOf (secondCommit .bytes) (recordIn (secondCommit .bytes) 2)
+secondIndex = indexOf (secondCommit .bytes) (settingOf (secondCommit .bytes) .form) (recordIn (secondCommit .bytes) 2)
 
 -- ---- The table
 
@@ -183,11 +189,11 @@ table =
     ∷ checksum (0xFF ∷ 0xFF ∷ []) gives 0xFFFFFFFF
     ∷ checksum (0xFF ∷ 0xFF ∷ 0x00 ∷ 0x01 ∷ []) gives 0x00010001
     -- "Page size 16 and 4,096 allowed; 8, 24 and 8,192 refused 17."
-    ∷ createRows 512 20 16 false gives 0
-    ∷ createRows 512 20 4096 false gives 0
-    ∷ createRows 512 20 8 false gives 17
-    ∷ createRows 512 20 24 false gives 17
-    ∷ createRows 512 20 8192 false gives 17
+    ∷ createRows 512 20 16 gives 0
+    ∷ createRows 512 20 4096 gives 0
+    ∷ createRows 512 20 8 gives 17
+    ∷ createRows 512 20 24 gives 17
+    ∷ createRows 512 20 8192 gives 17
     -- "Created: end 60."
     ∷ create (replicate 512 165) 20 16 false .number gives 0
     ∷ committedEnd (settingOf history) gives 60
@@ -238,9 +244,10 @@ pub examples-hold : holds table ≡ true
 unfolding
     table history firstOpen firstWrite firstCommit secondOpen secondWrite secondCommit secondIndex
     valueOf numberBytes laid tabulate checksum
-    pageAllowed summed sumStands sumsStand flagsOf headerFront headerBytes settingWith settingOf wholeBytes locationBytes entryBytes indexBytes entriesAt recordBytes recordAt recordOf timeRight textRight
-    placeOf revisionByte sessionByte pagesFrom pagesIn
-    created locked firstCopy touched laidOnPage writtenPages written touching put putAll mergedIndex mergedCount committed
-    lengthWrong headerWrong headerSumWrong originalWrong wholeWrong revisionUnknown entriesRight recordLies recordFields recordWrong recordSumWrong pageSumWrong pagesWrong readOutside writeOutside notNewest pagesFit sessionWrong sizeBelowParent tooMany noRoom textsWrong creationWrong full writeTooFar
-    row _then_ headerRows historyRows bothRows recordRows sessionRows asked createRows create readRows readBytes read openRows openForWriting writeRows write commitRows commit
+    endOf version addressAt addressBytes pageSumAt pageSumBytes entrySumAt entriesWidth userBytes entryCountAt startBytes
+    pageAllowed summed sumStands sumsStand flagsOf headerFront headerBytes settingWith settingOf wholeBytes locationBytes entryBytes indexBytes entriesAt frontBytes recordBytes recordAt recordOf timeRight textRight
+    placeOf revisionByte shownByte pagesFrom pagesIn
+    created locked firstCopy touched overPage laidOnPage writtenPages written touching put putAll mergedIndex mergedCount committed
+    lengthWrong headerWrong headerSumWrong originalWrong wholeWrong revisionUnknown entryRight entriesRight recordLies recordFields recordWrong recordSumWrong pageSumWrong pageWrong pagesWrong readOutside writeOutside notNewest pagesFit sessionWrong sizeBelowParent tooMany noRoom textsWrong creationWrong full writeTooFar
+    row _then_ headerRows historyRows bothRows recordRows sessionRows asked revisionRows beginRows heldRows createRows create readRows readBytes read openRows openForWriting writeRows write commitRows commit
 examples-hold = refl

@@ -1,5 +1,9 @@
 pub mod Bytes
 pub mod Checksum
 pub mod Rows
-pub mod Index
+pub mod Places
+pub mod Entries
+pub mod Rising
+pub mod Range
+pub mod Writes
 pub mod Examples

@@ -1,6 +1,6 @@
 -- Rows in their order. In each law b is what the rules ask, r what the code found of it, and `rest` the rows behind.
-use mathlib.Core.Path.{_≡_, refl, sym, ap, _∙_}
-use mathlib.Core.Bool.{Bool, true, false, _&&_, not, false≢true}
+use mathlib.Core.Path.{_≡_, refl, sym, _∙_}
+use mathlib.Core.Bool.{Bool, true, false, _&&_, false≢true}
 use Prim.Native.Nat.{ℕ, zero, suc, _<_}
 use native.Mathlib.Omega.{arith}
 use Rattle.rules.specs.Calls.{row, _then_, accepted}
@@ -67,6 +67,10 @@ both false b e = absurd (false≢true e)
 pub left-alone {ℓ} : {A : Type ℓ} (n : ℕ) (new old : A) → (n ≡ 0 → ⊥) → old ≡ accepted n new old
 left-alone zero new old h = absurd (h refl)
 left-alone (suc n) new old h = refl
+
+-- What is told of an acceptance says nothing of a refusal.
+pub refusal {ℓ} : {A : Type ℓ} {n k : ℕ} → n ≡ k → (k ≡ 0 → ⊥) → n ≡ 0 → A
+refusal e f z = absurd (f (sym e ∙ z))
 
 -- ---- Rows taken together
 

@@ -1,17 +1,30 @@
 -- Document 01, "Refusal numbers", "Order": each call as one definition from all its inputs to all its outputs, which are the
 -- number, the session handed back and every lent byte at exit.
-use Prim.Native.Nat.{ℕ, zero, suc, _+_, _*_, _-_, min}
-use mathlib.Core.Bool.{Bool, true, false, cond, _||_}
+use Prim.Native.Nat.{ℕ, zero, suc, _+_, _-_, min}
+use mathlib.Core.Bool.{Bool, true, false, cond}
 use mathlib.Core.List.{List, [], _∷_}
-use lib.Dec.{leb, ltb, eqb}
+use lib.Dec.{ltb, eqb}
 use lib.ListN.{length}
 use Rattle.rules.specs.Bytes.{numberAt}
-use Rattle.rules.specs.Layout.{entryWidth, frontWidth, bareWidth, emptyEnd, settingOf, recordOf, indexOf}
-use Rattle.rules.specs.View.{hasPage, entryOf, ownPages, revisionBytes, sessionBytes, pagesShared}
+use Rattle.rules.specs.Layout.{
+  entryAt,
+  entrySumAt,
+  entriesWidth,
+  entryCountAt,
+  frontWidth,
+  bareWidth,
+  headerWidth,
+  settingOf,
+  committedEnd,
+  emptyEnd,
+  recordOf,
+  indexOf,
+}
+use Rattle.rules.specs.View.{hasPage, entryOf, ownPages, ownAddress, revisionBytes, sessionBytes, pagesShared}
 use Rattle.rules.specs.Session.{
   Held,
   ended,
-  createdSetting,
+  createdForm,
   created,
   locked,
   opened,
@@ -19,9 +32,8 @@ use Rattle.rules.specs.Session.{
   written,
   touching,
   mergedIndex,
-  mergedCount,
-  sizeStored,
-  commitEnd,
+  recordStored,
+  settingStored,
   committed,
 }
 use Rattle.rules.specs.Rows.{
@@ -35,6 +47,7 @@ use Rattle.rules.specs.Rows.{
   recordWrong,
   recordSumWrong,
   pageSumWrong,
+  pageWrong,
   pagesWrong,
   readOutside,
   lookUpOutside,
@@ -51,8 +64,8 @@ use Rattle.rules.specs.Rows.{
   writeTooFar,
   notInOriginal,
 }
+use Rattle.rules.specs.declared.Form.{Form}
 use Rattle.rules.specs.declared.Setting.{Setting}
-use Rattle.rules.specs.declared.Record.{Record}
 use Rattle.rules.specs.declared.Entry.{Entry}
 use Rattle.rules.specs.declared.State.{State}
 use Rattle.rules.specs.declared.Found.{Found}
@@ -94,7 +107,7 @@ pub record Outcome : Type 0 where
 -- Rows 1, 2, 3.
 unfoldable pub headerRows : List ℕ → ℕ
 headerRows history =
-    row 1 (lengthWrong 40 (length history)) then row 2 (headerWrong history) then row 3 (headerSumWrong history)
+    row 1 (lengthWrong headerWidth (length history)) then row 2 (headerWrong history) then row 3 (headerSumWrong history)
 
 -- Rows 1, 2, 3, 5.
 unfoldable pub historyRows : List ℕ → Setting → ℕ
@@ -110,7 +123,12 @@ unfoldable pub recordRows : List ℕ → Setting → ℕ → ℕ
 recordRows history s zero = 0
 recordRows history s (suc k) =
     let r = recordOf history s (suc k) in
-    row 7 (recordWrong history s (suc k) r) then row 8 (recordSumWrong history r)
+    row 7 (recordWrong history s (suc k) r) then row 8 (recordSumWrong history (s .form) r)
+
+-- Rows 7, 8 of m revisions from k on, record after record.
+unfoldable pub recordsRows : List ℕ → Setting → ℕ → ℕ → ℕ
+recordsRows history s k zero = 0
+recordsRows history s k (suc m) = let rest = recordsRows history s (suc k) m in recordRows history s k then rest
 
 -- Rows 13, 7, 8 of a session, and directly after 8 the last condition of row 13.
 unfoldable pub sessionRows : List ℕ → Setting → State → ℕ
@@ -123,15 +141,35 @@ sessionRows history s st =
 unfoldable pub asked : Setting → ℕ → ℕ
 asked s revision = cond (eqb revision newest) (s .count) revision
 
+-- The index of a revision, and of a session's parent.
+abbrev pub revisionIndex : List ℕ → Setting → ℕ → List Entry
+revisionIndex history s k = indexOf history (s .form) (recordOf history s k)
+
+-- Rows 1 to 8.
+unfoldable pub revisionRows : List ℕ → List ℕ → ℕ → ℕ
+revisionRows original history revision =
+    let s = settingOf history in
+    bothRows original history s then row 6 (revisionUnknown s revision) then recordRows history s (asked s revision)
+
+-- Rows 1 to 5, 13, 7, 8.
+unfoldable pub beginRows : State → List ℕ → List ℕ → ℕ
+beginRows st original history =
+    let s = settingOf history in
+    bothRows original history s then sessionRows history s st
+
+-- Rows 1, 2, 3, 5, 13, 7, 8.
+unfoldable pub heldRows : State → List ℕ → ℕ
+heldRows st history = let s = settingOf history in historyRows history s then sessionRows history s st
+
 -- ---- "Creation 1, 17."
 
-unfoldable pub createRows : ℕ → ℕ → ℕ → Bool → ℕ
-createRows length original page branching =
-    row 1 (lengthWrong (emptyEnd (createdSetting original page branching)) length) then row 17 (creationWrong original page)
+unfoldable pub createRows : ℕ → ℕ → ℕ → ℕ
+createRows length original page =
+    row 1 (lengthWrong (emptyEnd (createdForm page)) length) then row 17 (creationWrong original page)
 
 unfoldable pub create : List ℕ → ℕ → ℕ → Bool → Reply
 create history original page branching =
-    let number = createRows (length history) original page branching in
+    let number = createRows (length history) original page in
     record { number = number; bytes = accepted number (created history original page branching) history }
 
 -- ---- "Read of a revision 1 to 8, 10, 9."
@@ -140,19 +178,15 @@ unfoldable pub readRows : List ℕ → List ℕ → ℕ → ℕ → ℕ → ℕ
 readRows original history revision at n =
     let s = settingOf history in
     let k = asked s revision in
-    let r = recordOf history s k in
-    bothRows original history s
-    then row 6 (revisionUnknown s revision)
-    then recordRows history s k
-    then row 10 (readOutside (r .logical) at n)
-    then row 9 (pagesWrong [] history (s .page) (indexOf history r) (pagesShared (s .page) at n))
+    revisionRows original history revision
+    then row 10 (readOutside (recordOf history s k .logical) at n)
+    then row 9 (pagesWrong [] history (s .form .page) (revisionIndex history s k) (pagesShared (s .form .page) at n))
 
 -- What an accepted read gives.
 unfoldable pub readBytes : List ℕ → List ℕ → ℕ → ℕ → ℕ → List ℕ
 readBytes original history revision at n =
     let s = settingOf history in
-    let r = recordOf history s (asked s revision) in
-    revisionBytes original history (s .page) (indexOf history r) at n
+    revisionBytes original history (s .form .page) (revisionIndex history s (asked s revision)) at n
 
 unfoldable pub read : List ℕ → List ℕ → ℕ → ℕ → List ℕ → Reply
 read original history revision at out =
@@ -162,36 +196,34 @@ read original history revision at out =
 -- ---- "Look-up 1 to 8, 10, 20, 9."
 
 -- "of length min(p, logical size - address)"
-abbrev pub foundLength : Setting → Record → ℕ → ℕ
-foundLength s r at = min (s .page) (r .logical - at)
+abbrev pub foundLength : ℕ → ℕ → ℕ → ℕ
+foundLength p size at = min p (size - at)
 
-unfoldable pub lookUpRows : List ℕ → List ℕ → ℕ → ℕ → ℕ
-lookUpRows original history revision at =
-    let s = settingOf history in
-    let k = asked s revision in
-    let r = recordOf history s k in
-    let index = indexOf history r in
-    bothRows original history s
-    then row 6 (revisionUnknown s revision)
-    then recordRows history s k
-    then row 10 (lookUpOutside (s .page) (r .logical) at)
-    then row 20 (notInOriginal (length original) index at (foundLength s r at))
-    then row 9 (pagesWrong [] history (s .page) index (at ∷ []))
+-- Rows 10, 20, 9 of a page, by the index and the logical size of its revision.
+unfoldable pub pageRows : List ℕ → List ℕ → ℕ → List Entry → ℕ → ℕ → ℕ
+pageRows original history p index size at =
+    row 10 (lookUpOutside p size at)
+    then row 20 (notInOriginal (length original) index at (foundLength p size at))
+    then row 9 (pageWrong history p index at)
 
 -- "It hands back the page as a part of the original or of the history": where that part lies.
-unfoldable pub foundPage : List ℕ → ℕ → ℕ → Found
-foundPage history revision at =
-    let s = settingOf history in
-    let r = recordOf history s (asked s revision) in
-    let index = indexOf history r in
-    cond (hasPage index at)
-    (record { number = 0; source = 1; offset = entryOf index at .physical; length = foundLength s r at })
-    (record { number = 0; source = 0; offset = at; length = foundLength s r at })
+unfoldable pub foundPage : ℕ → List Entry → ℕ → ℕ → Found
+foundPage p index size at =
+    let n = foundLength p size at in
+    cond (hasPage index at) (record { number = 0; source = 1; offset = entryOf index at .physical; length = n })
+    (record { number = 0; source = 0; offset = at; length = n })
+
+abbrev pub notFound : ℕ → Found
+notFound number = record { number = number; source = 0; offset = 0; length = 0 }
 
 unfoldable pub lookUp : List ℕ → List ℕ → ℕ → ℕ → Found
 lookUp original history revision at =
-    let number = lookUpRows original history revision at in
-    accepted number (foundPage history revision at) (record { number = number; source = 0; offset = 0; length = 0 })
+    let s = settingOf history in
+    let k = asked s revision in
+    let index = revisionIndex history s k in
+    let size = recordOf history s k .logical in
+    let number = revisionRows original history revision then pageRows original history (s .form .page) index size at in
+    accepted number (foundPage (s .form .page) index size at) (notFound number)
 
 -- ---- "Open for writing 1 to 6, 11, 12, 18, 7, 8."
 
@@ -223,16 +255,15 @@ openForWriting original history revision =
 unfoldable pub sessionReadRows : State → List ℕ → List ℕ → ℕ → ℕ → ℕ
 sessionReadRows st original history at n =
     let s = settingOf history in
-    let index = indexOf history (recordOf history s (st .parent)) in
-    bothRows original history s
-    then sessionRows history s st
+    let index = revisionIndex history s (st .parent) in
+    beginRows st original history
     then row 10 (readOutside (st .size) at n)
-    then row 9 (pagesWrong (ownPages st) history (s .page) index (pagesShared (s .page) at n))
+    then row 9 (pagesWrong (ownPages st) history (s .form .page) index (pagesShared (s .form .page) at n))
 
 unfoldable pub sessionRead : State → List ℕ → List ℕ → ℕ → List ℕ → Outcome
 sessionRead st original history at out =
     let s = settingOf history in
-    let index = indexOf history (recordOf history s (st .parent)) in
+    let index = revisionIndex history s (st .parent) in
     let number = sessionReadRows st original history at (length out) in
     record {
       number = number;
@@ -245,21 +276,20 @@ sessionRead st original history at out =
 unfoldable pub writeRows : State → List ℕ → List ℕ → ℕ → ℕ → ℕ
 writeRows st original history at n =
     let s = settingOf history in
-    let index = indexOf history (recordOf history s (st .parent)) in
-    let pages = pagesShared (s .page) at n in
+    let index = revisionIndex history s (st .parent) in
+    let pages = pagesShared (s .form .page) at n in
     let own = touching (ownPages st) pages in
-    bothRows original history s
-    then sessionRows history s st
+    beginRows st original history
     then row 10 (writeOutside (st .size) at)
     then row 19 (writeTooFar at n)
     then row 14 (tooMany index own)
-    then row 15 (noRoom (length history) (st .end + length own * s .page))
-    then row 9 (pagesWrong (ownPages st) history (s .page) index pages)
+    then row 15 (noRoom (length history) (ownAddress s st (length own)))
+    then row 9 (pagesWrong (ownPages st) history (s .form .page) index pages)
 
 unfoldable pub write : State → List ℕ → List ℕ → ℕ → List ℕ → Outcome
 write st original history at bytes =
     let s = settingOf history in
-    let index = indexOf history (recordOf history s (st .parent)) in
+    let index = revisionIndex history s (st .parent) in
     let number = writeRows st original history at (length bytes) in
     let held : Held = record { history = history; session = st } in
     let after = written original s index at bytes held in
@@ -270,18 +300,17 @@ write st original history at bytes =
 unfoldable pub commitRows : State → List ℕ → List ℕ → List ℕ → List ℕ → ℕ
 commitRows st history time name comment =
     let s = settingOf history in
-    let index = indexOf history (recordOf history s (st .parent)) in
-    let merged = mergedIndex history s st index in
-    historyRows history s
-    then sessionRows history s st
+    let index = revisionIndex history s (st .parent) in
+    let r = recordStored s st (length (mergedIndex history s st index)) (length name) (length comment) in
+    heldRows st history
     then row 14 (tooMany index (ownPages st))
     then row 16 (textsWrong time name comment)
-    then row 15 (noRoom (length history) (commitEnd s st (sizeStored merged name comment)))
+    then row 15 (noRoom (length history) (committedEnd (settingStored s r)))
 
 unfoldable pub commit : State → List ℕ → List ℕ → ℕ → List ℕ → List ℕ → Outcome
 commit st history time user name comment =
     let s = settingOf history in
-    let index = indexOf history (recordOf history s (st .parent)) in
+    let index = revisionIndex history s (st .parent) in
     let number = commitRows st history time name comment in
     record {
       number = number;
@@ -321,21 +350,26 @@ browse history revision =
 abbrev pub stepEnd : ℕ → Step
 stepEnd kind = record { kind = kind; logical = 0; physical = 0; «page_sum» = 0; «entry_sum» = 0 }
 
+-- The form of lent bytes. They are a record's, and no width or place in a record goes by the page size.
+abbrev pub lentForm : Form
+lentForm = record { page = 0 }
+
 abbrev pub stepEntry : List ℕ → ℕ → Step
-stepEntry bytes at = record {
+stepEntry bytes at = let e = entryAt lentForm bytes at in record {
   kind = 0;
-  logical = numberAt 8 bytes at;
-  physical = numberAt 8 bytes (at + 8);
-  «page_sum» = numberAt 4 bytes (at + 16);
-  «entry_sum» = numberAt 4 bytes (at + 20);
+  logical = e .logical;
+  physical = e .physical;
+  «page_sum» = e .checksum;
+  «entry_sum» = numberAt 4 bytes (at + entrySumAt lentForm);
 }
 
 unfoldable pub browseStep : List ℕ → ℕ → Step
 browseStep bytes place =
-    let entries = numberAt 8 bytes 56 in
+    let f = lentForm in
+    let entries = numberAt 8 bytes (entryCountAt f) in
     cond (eqb (length bytes) 0) (stepEnd 1)
-    (cond (ltb (length bytes) (bareWidth + entryWidth * entries)) (stepEnd 7)
-    (cond (ltb place entries) (stepEntry bytes (frontWidth + entryWidth * place)) (stepEnd 1)))
+    (cond (ltb (length bytes) (bareWidth f + entriesWidth f entries)) (stepEnd 7)
+    (cond (ltb place entries) (stepEntry bytes (frontWidth f + entriesWidth f place)) (stepEnd 1)))
 
 -- The reader's next place: one further behind an entry, else where it is.
 unfoldable pub browseNext : List ℕ → ℕ → ℕ
@@ -359,7 +393,7 @@ checkRevisions history s k zero = fault 0 0 0
 checkRevisions history s k (suc m) =
     let number = recordRows history s k in
     let after = checkRevisions history s (suc k) m in
-    accepted number (checkEntries history (s .page) k 0 (indexOf history (recordOf history s k)) after) (fault number k 0)
+    accepted number (checkEntries history (s .form .page) k 0 (revisionIndex history s k) after) (fault number k 0)
 
 unfoldable pub check : List ℕ → Checked
 check history =

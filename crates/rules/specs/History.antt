@@ -1,17 +1,17 @@
 -- Demand 3, as a statement: "From a freshly created history, after any calls in any order, every committed revision reads for ever
 -- as its parent's bytes with its session's accepted writes laid on; its stored index equals the one worked out afresh; apart from
 -- the 40 header bytes nothing below the end of a commit changes again."
-use Prim.Native.Nat.{ℕ, zero, suc, _+_, _*_, _-_, _≤_, _<_}
+use Prim.Native.Nat.{ℕ, _+_, _*_, _-_, _≤_}
 use mathlib.Core.Path.{_≡_}
 use mathlib.Core.Bool.{Bool}
 use mathlib.Core.List.{List, [], _∷_, _++_}
 use lib.ListN.{length, getD}
 use Rattle.rules.specs.Bytes.{byteAt, part, laid, tabulate}
 use Rattle.rules.specs.Checksum.{checksum}
-use Rattle.rules.specs.Layout.{settingOf, committedEnd, recordOf, indexOf}
+use Rattle.rules.specs.Layout.{headerWidth, settingOf, committedEnd, recordOf, indexOf}
 use Rattle.rules.specs.View.{pagesShared}
 use Rattle.rules.specs.Session.{ended, touching, putAll}
-use Rattle.rules.specs.Calls.{accepted, Reply, Outcome, create, read, openForWriting, sessionRead, write, commit, release}
+use Rattle.rules.specs.Calls.{accepted, create, read, openForWriting, sessionRead, write, commit, release}
 use Rattle.rules.specs.declared.Entry.{Entry}
 use Rattle.rules.specs.declared.State.{State}
 
@@ -131,18 +131,19 @@ pub record Stands (original history : List ℕ) (k : ℕ) (w : Worked) : Type 0 
   pub size : recordOf history (settingOf history) k .logical ≡ length (w .bytes)
   pub reads : (at : ℕ) (out : List ℕ) → at + length out ≤ length (w .bytes)
       → read original history k at out ≡ record { number = 0; bytes = part (w .bytes) at (length out) }
-  pub index : indexOf history (recordOf history (settingOf history) k) ≡ w .index
+  pub index : indexOf history (settingOf history .form) (recordOf history (settingOf history) k) ≡ w .index
 
--- Of two moments, the revisions committed at the earlier one stand at the later one, and the bytes from 40 up to the earlier
+-- Of two moments, the revisions committed at the earlier one stand at the later one, and the bytes from the header up to the earlier
 -- committed end are unchanged.
 pub record Kept (original : List ℕ) (page : ℕ) (earlier later : Moment) : Type 0 where
   pub counted : settingOf (earlier .history) .count ≡ length (earlier .log)
   pub stands : (k : ℕ) → k ≤ length (earlier .log)
       → Stands original (later .history) k (getD (revisionsOf page original (earlier .log)) k nothing)
-  pub unchanged : part (later .history) 40 (committedEnd (settingOf (earlier .history)) - 40)
-      ≡ part (earlier .history) 40 (committedEnd (settingOf (earlier .history)) - 40)
+  pub unchanged : part (later .history) headerWidth (committedEnd (settingOf (earlier .history)) - headerWidth)
+      ≡ part (earlier .history) headerWidth (committedEnd (settingOf (earlier .history)) - headerWidth)
 
 -- From a freshly created history, after any calls, and after any calls more.
+-- Stands for itself: it is stated, and not proved yet.
 pub Demand3 : Type 0
 Demand3 =
     (original buffer : List ℕ) (page : ℕ) (branching : Bool) (calls more : List Call)

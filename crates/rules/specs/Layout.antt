@@ -1,14 +1,16 @@
 -- Document 01, "Sizes allowed" and "Layout of the history": each part as the bytes that are written and as the fields that are read.
 use Prim.Native.Nat.{ℕ, zero, suc, _+_, _*_, _-_, _/_, _%_}
-use mathlib.Core.Bool.{Bool, true, false, not, cond, _&&_, _||_}
+use mathlib.Core.Bool.{Bool, true, false, cond, _&&_}
 use mathlib.Core.List.{List, [], _∷_, _++_}
-use lib.Dec.{leb, ltb, eqb}
-use lib.ListN.{length, replicate}
-use Rattle.rules.specs.Bytes.{byteAt, part, numberAt, numberBytes, same}
+use lib.Dec.{leb, eqb}
+use lib.ListN.{length}
+use Rattle.rules.specs.Bytes.{byteAt, part, numberAt, numberBytes}
 use Rattle.rules.specs.Checksum.{checksum}
+use Rattle.rules.specs.declared.Form.{Form}
 use Rattle.rules.specs.declared.Setting.{Setting}
 use Rattle.rules.specs.declared.Record.{Record}
 use Rattle.rules.specs.declared.Entry.{Entry}
+use Rattle.rules.specs.declared.Index.{Index}
 
 -- ---- Sizes allowed
 
@@ -51,10 +53,6 @@ wholeSignature = 0x4F ∷ 0x57 ∷ 0x48 ∷ 0x52 ∷ []
 abbrev pub recordSignature : List ℕ
 recordSignature = 0x4F ∷ 0x52 ∷ 0x52 ∷ 0x53 ∷ []
 
--- "version 1, three reserved"; "Reserved bytes are zero."
-abbrev pub versionBytes : List ℕ
-versionBytes = 1 ∷ 0 ∷ 0 ∷ 0 ∷ []
-
 -- A part that ends in the "checksum of all before it (4)".
 unfoldable pub summed : List ℕ → List ℕ
 summed bytes = bytes ++ numberBytes 4 (checksum bytes)
@@ -70,29 +68,74 @@ sumsStand width offset history at zero = true
 sumsStand width offset history at (suc n) =
     sumStands history at 16 (at + offset) && sumsStand width offset history (at + width) n
 
--- ---- Ends and widths, by name
+-- ---- What goes by the form
+
+-- Ends, widths, places and stored numbers that differ from form to form have their names here, each with its one definition. They
+-- are shut: a proof uses the laws about them (proofs/Places.antt), and not their text.
 
 -- Where a part of the history ends that stands at an address and has a size.
-abbrev pub endOf : Setting → ℕ → ℕ → ℕ
-endOf s at size = at + size
+unfoldable pub endOf : Form → ℕ → ℕ → ℕ
+endOf f at size = at + size
 
--- The least address of a whole history is the end of the header's 40 bytes, and that of a record or a page the end of the
--- empty whole history behind it.
-abbrev pub headerEnd : Setting → ℕ
-headerEnd s = endOf s 0 40
+-- "version 1"
+unfoldable pub version : Form → ℕ
+version f = 1
 
-abbrev pub emptyEnd : Setting → ℕ
-emptyEnd s = endOf s (headerEnd s) 20
+-- "Addresses count from the start of the history file": an address that stands in the eight bytes at another, and its bytes.
+unfoldable pub addressAt : Form → List ℕ → ℕ → ℕ
+addressAt f history at = numberAt 8 history at
 
--- The bytes of an entry, of a record's fields ahead of its entries, and of a record without its entries, name and comment.
-abbrev pub entryWidth : ℕ
-entryWidth = 24
+unfoldable pub addressBytes : Form → ℕ → List ℕ
+addressBytes f address = numberBytes 8 address
 
-abbrev pub frontWidth : ℕ
-frontWidth = 72
+-- "Entry, 24 bytes: .., page checksum (4), checksum of the first 16 bytes (4)": the page checksum of the entry at an address, its
+-- bytes, and how far behind the entry's start its own checksum stands.
+unfoldable pub pageSumAt : Form → List ℕ → ℕ → ℕ
+pageSumAt f history at = numberAt 4 history (at + 16)
 
-abbrev pub bareWidth : ℕ
-bareWidth = 76
+unfoldable pub pageSumBytes : Form → ℕ → List ℕ
+pageSumBytes f sum = numberBytes 4 sum
+
+unfoldable pub entrySumAt : Form → ℕ
+entrySumAt f = 20
+
+-- The bytes of an entry, and of n of them.
+abbrev pub entryWidth : Form → ℕ
+entryWidth f = entrySumAt f + 4
+
+unfoldable pub entriesWidth : Form → ℕ → ℕ
+entriesWidth f n = n * entryWidth f
+
+-- "user ID (4)" in a record, behind the page size; and how far behind a record's start the entry count stands that follows it. Behind
+-- that stand the two sizes, and then the entries.
+unfoldable pub userBytes : Form → ℕ → List ℕ
+userBytes f user = numberBytes 4 user
+
+unfoldable pub entryCountAt : Form → ℕ
+entryCountAt f = 56
+
+abbrev pub nameSizeAt : Form → ℕ
+nameSizeAt f = entryCountAt f + 8
+
+abbrev pub commentSizeAt : Form → ℕ
+commentSizeAt f = entryCountAt f + 12
+
+-- The bytes of a record ahead of its entries, and of a record without its entries, name and comment.
+abbrev pub frontWidth : Form → ℕ
+frontWidth f = entryCountAt f + 16
+
+abbrev pub bareWidth : Form → ℕ
+bareWidth f = frontWidth f + 4
+
+-- ---- How parts start
+
+-- "version 1, three reserved"; "Reserved bytes are zero."
+abbrev pub versionBytes : Form → List ℕ
+versionBytes f = version f ∷ 0 ∷ 0 ∷ 0 ∷ []
+
+-- Whole history and record start alike: "signature, version 1, three reserved", and a number (8).
+unfoldable pub startBytes : Form → List ℕ → ℕ → List ℕ
+startBytes f signature number = signature ++ versionBytes f ++ numberBytes 8 number
 
 -- ---- Header
 
@@ -100,24 +143,32 @@ bareWidth = 76
 unfoldable pub flagsOf : Setting → ℕ
 flagsOf s = cond (s .lock) 1 0 + cond (s .branching) 2 0
 
--- "Header, 40 bytes: signature 0..3, version 1 at 4, flags 5..7, page size 8..11, original's length 12..19, whole history's
--- address 20..27, its size 28..35,
+-- "Header, 40 bytes:
+abbrev pub headerWidth : ℕ
+headerWidth = 40
+
+--  signature 0..3, version 1 at 4, flags 5..7, page size 8..11, original's length 12..19, whole history's address 20..27, its size
+--  28..35,
 unfoldable pub headerFront : Setting → List ℕ
 headerFront s =
-    headerSignature ++ (1 ∷ []) ++ numberBytes 3 (flagsOf s) ++ numberBytes 4 (s .page) ++ numberBytes 8 (s .original)
-    ++ numberBytes 8 (s .address)
+    headerSignature ++ (version (s .form) ∷ []) ++ numberBytes 3 (flagsOf s) ++ numberBytes 4 (s .form .page)
+    ++ numberBytes 8 (s .original)
+    ++ addressBytes (s .form) (s .address)
     ++ numberBytes 8 (s .size)
 
 --  checksum of bytes 0..35 at 36..39."
 unfoldable pub headerBytes : Setting → List ℕ
 headerBytes s = summed (headerFront s)
 
--- The same fields read, with a count that does not stand in the header;
+-- The form that the header says, and its other fields, with a count that does not stand in it;
+abbrev pub formOf : List ℕ → Form
+formOf history = record { page = numberAt 4 history 8 }
+
 unfoldable pub settingWith : List ℕ → ℕ → Setting
 settingWith history count = record {
-  page = numberAt 4 history 8;
+  form = formOf history;
   original = numberAt 8 history 12;
-  address = numberAt 8 history 20;
+  address = addressAt (formOf history) history 20;
   size = numberAt 8 history 28;
   count = count;
   lock = eqb (byteAt history 5 % 2) 1;
@@ -126,12 +177,12 @@ settingWith history count = record {
 
 -- and with the whole history's count, which stands behind its signature and version.
 unfoldable pub settingOf : List ℕ → Setting
-settingOf history = settingWith history (numberAt 8 history (numberAt 8 history 20 + 8))
+settingOf history = settingWith history (numberAt 8 history (addressAt (formOf history) history 20 + 8))
 
 -- The setting with its lock set or clear.
 abbrev pub withLock : Bool → Setting → Setting
 withLock lock s = record {
-  page = s .page;
+  form = s .form;
   original = s .original;
   address = s .address;
   size = s .size;
@@ -142,7 +193,7 @@ withLock lock s = record {
 
 -- "The committed end is the whole history's address plus its size."
 abbrev pub committedEnd : Setting → ℕ
-committedEnd s = endOf s (s .address) (s .size)
+committedEnd s = endOf (s .form) (s .address) (s .size)
 
 -- ---- Whole history
 
@@ -151,89 +202,106 @@ abbrev pub wholeSize : ℕ → ℕ
 wholeSize n = 20 + 20 * n
 
 --  signature, version 1, three reserved, count n (8), n locations, checksum of all before it (4)."
-unfoldable pub wholeBytes : ℕ → List ℕ → List ℕ
-wholeBytes n locations = summed (wholeSignature ++ versionBytes ++ numberBytes 8 n ++ locations)
+unfoldable pub wholeBytes : Form → ℕ → List ℕ → List ℕ
+wholeBytes f n locations = summed (startBytes f wholeSignature n ++ locations)
 
 -- "A location is record address (8), record size (8), checksum of those 16 bytes (4)."
-unfoldable pub locationBytes : ℕ → ℕ → List ℕ
-locationBytes at size = summed (numberBytes 8 at ++ numberBytes 8 size)
+abbrev pub locationWidth : ℕ
+locationWidth = 20
 
--- "Location k, counted from 1, belongs to revision k": where it stands.
+unfoldable pub locationBytes : Form → ℕ → ℕ → List ℕ
+locationBytes f at size = summed (addressBytes f at ++ numberBytes 8 size)
+
+-- "Location k, counted from 1, belongs to revision k": where it stands, behind the whole history's first 16 bytes.
 abbrev pub locationAt : Setting → ℕ → ℕ
-locationAt s k = s .address + 16 + 20 * (k - 1)
+locationAt s k = s .address + 16 + locationWidth * (k - 1)
+
+-- The least address of a whole history is the end of the header, and that of a record or a page the end of the empty whole history
+-- behind it.
+abbrev pub headerEnd : Form → ℕ
+headerEnd f = endOf f 0 headerWidth
+
+abbrev pub emptyEnd : Form → ℕ
+emptyEnd f = endOf f (headerEnd f) (wholeSize 0)
 
 -- ---- Entry
 
 -- "Entry, 24 bytes: logical address (8), physical address (8), page checksum (4), checksum of the first 16 bytes (4)."
-unfoldable pub entryBytes : Entry → List ℕ
-entryBytes e =
-    let place = numberBytes 8 (e .logical) ++ numberBytes 8 (e .physical) in
-    place ++ numberBytes 4 (e .checksum) ++ numberBytes 4 (checksum place)
+unfoldable pub entryBytes : Form → Entry → List ℕ
+entryBytes f e =
+    let place = numberBytes 8 (e .logical) ++ addressBytes f (e .physical) in
+    place ++ pageSumBytes f (e .checksum) ++ numberBytes 4 (checksum place)
 
-unfoldable pub indexBytes : List Entry → List ℕ
-indexBytes [] = []
-indexBytes (e ∷ index) = entryBytes e ++ indexBytes index
+unfoldable pub indexBytes : Form → List Entry → List ℕ
+indexBytes f [] = []
+indexBytes f (e ∷ index) = entryBytes f e ++ indexBytes f index
 
 -- The same fields read.
-abbrev pub entryAt : List ℕ → ℕ → Entry
-entryAt history at = record {
+abbrev pub entryAt : Form → List ℕ → ℕ → Entry
+entryAt f history at = record {
   logical = numberAt 8 history at;
-  physical = numberAt 8 history (at + 8);
-  checksum = numberAt 4 history (at + 16);
+  physical = addressAt f history (at + 8);
+  checksum = pageSumAt f history at;
 }
 
--- The n entries from an address.
-unfoldable pub entriesAt : List ℕ → ℕ → ℕ → List Entry
-entriesAt history at zero = []
-entriesAt history at (suc n) = entryAt history at ∷ entriesAt history (at + entryWidth) n
+-- The n entries from an address, and those of an index.
+unfoldable pub entriesAt : Form → List ℕ → ℕ → ℕ → List Entry
+entriesAt f history at zero = []
+entriesAt f history at (suc n) = entryAt f history at ∷ entriesAt f history (at + entryWidth f) n
+
+abbrev pub entriesIn : List ℕ → Index → List Entry
+entriesIn history x = entriesAt (x .form) history (x .at) (x .entries)
 
 -- ---- Record
 
 -- "Its size is 76 + 24 x entries + name size + comment size."
-abbrev pub recordSize : ℕ → ℕ → ℕ → ℕ
-recordSize entries name comment = bareWidth + entryWidth * entries + name + comment
+abbrev pub recordSize : Form → ℕ → ℕ → ℕ → ℕ
+recordSize f entries name comment = bareWidth f + entriesWidth f entries + name + comment
 
 -- "Record: ORRS, version 1, three reserved, revision (8), parent (8), time (16), logical size (8), page size (4), user ID (4),
--- entry count (8), name size (4), comment size (4), entries, name, comment, checksum of all before it (4)."
-unfoldable pub recordBytes : ℕ → ℕ → List ℕ → ℕ → ℕ → ℕ → List Entry → List ℕ → List ℕ → List ℕ
-recordBytes revision parent time logical page user index name comment =
-    summed
-    (recordSignature ++ versionBytes ++ numberBytes 8 revision ++ numberBytes 8 parent ++ time ++ numberBytes 8 logical
-    ++ numberBytes 4 page
-    ++ numberBytes 4 user
-    ++ numberBytes 8 (length index)
-    ++ numberBytes 4 (length name)
-    ++ numberBytes 4 (length comment)
-    ++ indexBytes index
-    ++ name
-    ++ comment)
+-- entry count (8), name size (4), comment size (4),
+unfoldable pub frontBytes : Form → Record → List ℕ → ℕ → List ℕ
+frontBytes f r time user =
+    startBytes f recordSignature (r .revision) ++ numberBytes 8 (r .parent) ++ time ++ numberBytes 8 (r .logical)
+    ++ numberBytes 4 (r .page)
+    ++ userBytes f user
+    ++ numberBytes 8 (r .entries)
+    ++ numberBytes 4 (r .name)
+    ++ numberBytes 4 (r .comment)
+
+--  entries, name, comment, checksum of all before it (4)."
+unfoldable pub recordBytes : Form → Record → List ℕ → ℕ → List Entry → List ℕ → List ℕ → List ℕ
+recordBytes f r time user index name comment = summed (frontBytes f r time user ++ indexBytes f index ++ name ++ comment)
 
 -- The same fields read, of the record at an address that its location says to have a size.
-unfoldable pub recordAt : List ℕ → ℕ → ℕ → Record
-recordAt history at size = record {
+unfoldable pub recordAt : Form → List ℕ → ℕ → ℕ → Record
+recordAt f history at size = record {
   address = at;
   size = size;
   revision = numberAt 8 history (at + 8);
   parent = numberAt 8 history (at + 16);
   logical = numberAt 8 history (at + 40);
   page = numberAt 4 history (at + 48);
-  entries = numberAt 8 history (at + 56);
-  name = numberAt 4 history (at + 64);
-  comment = numberAt 4 history (at + 68);
+  entries = numberAt 8 history (at + entryCountAt f);
+  name = numberAt 4 history (at + nameSizeAt f);
+  comment = numberAt 4 history (at + commentSizeAt f);
 }
 
 abbrev pub timeOf : List ℕ → Record → List ℕ
 timeOf history r = part history (r .address + 24) 16
 
 -- The record's index, its name and its comment.
-abbrev pub indexOf : List ℕ → Record → List Entry
-indexOf history r = entriesAt history (r .address + frontWidth) (r .entries)
+abbrev pub indexOf : List ℕ → Form → Record → List Entry
+indexOf history f r = entriesAt f history (r .address + frontWidth f) (r .entries)
 
-abbrev pub nameOf : List ℕ → Record → List ℕ
-nameOf history r = part history (r .address + frontWidth + entryWidth * r .entries) (r .name)
+abbrev pub nameAt : Form → Record → ℕ
+nameAt f r = r .address + frontWidth f + entriesWidth f (r .entries)
 
-abbrev pub commentOf : List ℕ → Record → List ℕ
-commentOf history r = part history (r .address + frontWidth + entryWidth * r .entries + r .name) (r .comment)
+abbrev pub nameOf : List ℕ → Form → Record → List ℕ
+nameOf history f r = part history (nameAt f r) (r .name)
+
+abbrev pub commentOf : List ℕ → Form → Record → List ℕ
+commentOf history f r = part history (nameAt f r + r .name) (r .comment)
 
 -- "Revision 0 is the original; it has no record": in a record's place stands one with no entries and the original's length.
 abbrev pub noRecord : Setting → Record
@@ -243,7 +311,7 @@ noRecord s = record {
   revision = 0;
   parent = 0;
   logical = s .original;
-  page = s .page;
+  page = s .form .page;
   entries = 0;
   name = 0;
   comment = 0;
@@ -253,7 +321,8 @@ noRecord s = record {
 unfoldable pub recordOf : List ℕ → Setting → ℕ → Record
 recordOf history s zero = noRecord s
 recordOf history s (suc k) =
-    recordAt history (numberAt 8 history (locationAt s (suc k))) (numberAt 8 history (locationAt s (suc k) + 8))
+    let at = locationAt s (suc k) in
+    recordAt (s .form) history (addressAt (s .form) history at) (numberAt 8 history (at + 8))
 
 -- ---- Time, name and comment
 
@@ -284,6 +353,10 @@ timeRight time =
     && leb (twoDigits time 9) 23
     && leb (twoDigits time 11) 59
     && leb (twoDigits time 13) 59
+
+-- The time that a commit is given.
+abbrev pub commitTimeRight : List ℕ → Bool
+commitTimeRight time = timeRight time
 
 -- "Name and comment are bytes 0x20 to 0x7E and end in their only zero byte."
 unfoldable pub textRight : List ℕ → Bool

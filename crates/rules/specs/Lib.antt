@@ -1,6 +1,7 @@
 pub mod Bytes
 pub mod Checksum
 pub mod Layout
+pub mod Orders
 pub mod View
 pub mod Session
 pub mod Rows

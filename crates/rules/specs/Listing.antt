@@ -5,9 +5,10 @@ use mathlib.Core.List.{List, [], _∷_, _++_}
 use lib.Dec.{leb, ltb}
 use lib.ListN.{length, take}
 use Rattle.rules.specs.Bytes.{laid}
-use Rattle.rules.specs.Layout.{settingOf, recordOf, timeOf, nameOf}
+use Rattle.rules.specs.Layout.{headerWidth, settingOf, recordOf, timeOf, nameOf}
 use Rattle.rules.specs.Rows.{lengthWrong, headerWrong, headerSumWrong, wholeWrong}
-use Rattle.rules.specs.Calls.{row, _then_, accepted, recordRows}
+use Rattle.rules.specs.Calls.{row, _then_, accepted, recordsRows}
+use Rattle.rules.specs.declared.Form.{Form}
 use Rattle.rules.specs.declared.Setting.{Setting}
 use Rattle.rules.specs.declared.Record.{Record}
 
@@ -17,16 +18,11 @@ use Rattle.rules.specs.declared.Record.{Record}
 abbrev pub listLimit : ℕ
 listLimit = 65536
 
--- "then, record after record, 7 and 8": the m records from k on.
-unfoldable pub recordsRows : List ℕ → Setting → ℕ → ℕ → ℕ
-recordsRows history s k zero = 0
-recordsRows history s k (suc m) = let rest = recordsRows history s (suc k) m in recordRows history s k then rest
-
 -- "the first fault by 1, 2, 3, 5, then .. 7 and 8 (longer input counts as 1)"
 unfoldable pub listRows : List ℕ → ℕ
 listRows history =
     let s = settingOf history in
-    row 1 (lengthWrong 40 (length history) || ltb listLimit (length history))
+    row 1 (lengthWrong headerWidth (length history) || ltb listLimit (length history))
     then row 2 (headerWrong history)
     then row 3 (headerSumWrong history)
     then row 5 (wholeWrong history s)
@@ -76,29 +72,29 @@ refusedWord = 0x72 ∷ 0x65 ∷ 0x66 ∷ 0x75 ∷ 0x73 ∷ 0x65 ∷ 0x64 ∷ 0x2
 -- "`pages` is the page size; flags print `yes` or `no`. Every line ends in one newline."
 unfoldable pub settingLine : Setting → List ℕ
 settingLine s =
-    pagesWord ++ decimal (s .page) ++ originalWord ++ decimal (s .original) ++ revisionsWord ++ decimal (s .count) ++ lockWord
+    pagesWord ++ decimal (s .form .page) ++ originalWord ++ decimal (s .original) ++ revisionsWord ++ decimal (s .count) ++ lockWord
     ++ yesNo (s .lock)
     ++ branchWord
     ++ yesNo (s .branching)
     ++ newline
 
 -- The name without its closing zero.
-abbrev pub shownName : List ℕ → Record → List ℕ
-shownName history r = take (r .name - 1) (nameOf history r)
+abbrev pub shownName : List ℕ → Form → Record → List ℕ
+shownName history f r = take (r .name - 1) (nameOf history f r)
 
 -- "Each record's line: revision, parent, time, logical size, entries, name."
-unfoldable pub recordLine : List ℕ → Record → List ℕ
-recordLine history r =
+unfoldable pub recordLine : List ℕ → Form → Record → List ℕ
+recordLine history f r =
     decimal (r .revision) ++ space ++ decimal (r .parent) ++ space ++ timeOf history r ++ space ++ decimal (r .logical) ++ space
     ++ decimal (r .entries)
     ++ space
-    ++ shownName history r
+    ++ shownName history f r
     ++ newline
 
 -- The lines of the m records from k on.
 unfoldable pub recordLines : List ℕ → Setting → ℕ → ℕ → List ℕ
 recordLines history s k zero = []
-recordLines history s k (suc m) = recordLine history (recordOf history s k) ++ recordLines history s (suc k) m
+recordLines history s k (suc m) = recordLine history (s .form) (recordOf history s k) ++ recordLines history s (suc k) m
 
 -- "It prints `refused N` and nothing else for the first fault".
 unfoldable pub listText : List ℕ → List ℕ

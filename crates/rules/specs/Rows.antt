@@ -1,5 +1,5 @@
 -- Document 01, "Refusal numbers": each row of the table under its own sentence, true where the row holds.
-use Prim.Native.Nat.{ℕ, zero, suc, _+_, _*_, _-_, _/_, _%_, _^_, min}
+use Prim.Native.Nat.{ℕ, _+_, _-_, _%_, _^_}
 use mathlib.Core.Bool.{Bool, true, false, not, _&&_, _||_}
 use mathlib.Core.List.{List, [], _∷_}
 use lib.Dec.{leb, ltb, eqb}
@@ -17,32 +17,37 @@ use Rattle.rules.specs.Layout.{
   headerSignature,
   wholeSignature,
   recordSignature,
+  endOf,
+  version,
+  entrySumAt,
+  entryWidth,
+  frontWidth,
   versionBytes,
   sumStands,
   sumsStand,
-  endOf,
-  headerEnd,
-  emptyEnd,
-  entryWidth,
-  frontWidth,
-  bareWidth,
+  headerWidth,
+  formOf,
   committedEnd,
   wholeSize,
+  locationWidth,
   locationAt,
+  headerEnd,
+  emptyEnd,
   recordSize,
   timeOf,
   indexOf,
   nameOf,
   commentOf,
-  recordOf,
   within,
   timeRight,
+  commitTimeRight,
   textRight,
   nameRight,
   commentRight,
 }
 use Rattle.rules.specs.View.{has, hasPage, entryOf, ownPages, ownAddress}
-use Rattle.rules.specs.Session.{touching, mergedCount}
+use Rattle.rules.specs.Session.{mergedCount}
+use Rattle.rules.specs.declared.Form.{Form}
 use Rattle.rules.specs.declared.Setting.{Setting}
 use Rattle.rules.specs.declared.Record.{Record}
 use Rattle.rules.specs.declared.Entry.{Entry}
@@ -57,7 +62,7 @@ unfoldable pub headerWrong : List ℕ → Bool
 headerWrong history =
     not
     (same (part history 0 4) headerSignature
-    && eqb (byteAt history 4) 1
+    && eqb (byteAt history 4) (version (formOf history))
     && ltb (byteAt history 5) 4
     && eqb (byteAt history 6) 0
     && eqb (byteAt history 7) 0
@@ -66,7 +71,7 @@ headerWrong history =
 
 -- 3: "header checksum wrong"
 unfoldable pub headerSumWrong : List ℕ → Bool
-headerSumWrong history = not (sumStands history 0 36 36)
+headerSumWrong history = not (sumStands history 0 (headerWidth - 4) (headerWidth - 4))
 
 -- 4: "the lent original's length is not the header's"
 unfoldable pub originalWrong : ℕ → Setting → Bool
@@ -77,14 +82,14 @@ originalWrong length s = not (eqb length (s .original))
 unfoldable pub wholeWrong : List ℕ → Setting → Bool
 wholeWrong history s =
     not
-    (leb (headerEnd s) (s .address)
+    (leb (headerEnd (s .form)) (s .address)
     && leb (committedEnd s) (length history)
     && eqb (s .size) (wholeSize (s .count))
     && leb (s .count) revisionLimit
     && same (part history (s .address) 4) wholeSignature
-    && same (part history (s .address + 4) 4) versionBytes
+    && same (part history (s .address + 4) 4) (versionBytes (s .form))
     && sumStands history (s .address) (s .size - 4) (s .address + (s .size - 4))
-    && sumsStand 20 16 history (locationAt s 1) (s .count))
+    && sumsStand locationWidth 16 history (locationAt s 1) (s .count))
 
 -- 6: "revision above n and not 2^64 - 1"
 abbrev pub newest : ℕ
@@ -96,24 +101,26 @@ revisionUnknown s revision = ltb (s .count) revision && not (eqb revision newest
 -- 7: "record: address below 60, size not its layout's, reaches past the whole history's start, or any field against the layout;
 -- revision not k; parent not below k; page size not the header's; a physical address below 60 or a page reaching past the
 -- record's start".
--- "Logical addresses are multiples of p, strictly rise and are below the record's logical size": each entry from the next
--- logical address allowed on.
+-- "Logical addresses are multiples of p, strictly rise and are below the record's logical size": an entry, of which the next
+-- logical address allowed is told, and each entry behind the one before it.
+unfoldable pub entryRight : Setting → Record → ℕ → Entry → Bool
+entryRight s r next e =
+    leb next (e .logical)
+    && eqb (e .logical % s .form .page) 0
+    && ltb (e .logical) (r .logical)
+    && leb (emptyEnd (s .form)) (e .physical)
+    && leb (e .physical + s .form .page) (r .address)
+
 unfoldable pub entriesRight : Setting → Record → ℕ → List Entry → Bool
 entriesRight s r next [] = true
-entriesRight s r next (e ∷ index) =
-    leb next (e .logical)
-    && eqb (e .logical % s .page) 0
-    && ltb (e .logical) (r .logical)
-    && leb (emptyEnd s) (e .physical)
-    && leb (e .physical + s .page) (r .address)
-    && entriesRight s r (e .logical + 1) index
+entriesRight s r next (e ∷ index) = entryRight s r next e && entriesRight s r (e .logical + 1) index
 
 -- Where the record lies, and its sizes.
 unfoldable pub recordLies : Setting → Record → Bool
 recordLies s r =
-    leb (emptyEnd s) (r .address)
-    && leb (endOf s (r .address) (r .size)) (s .address)
-    && eqb (r .size) (recordSize (r .entries) (r .name) (r .comment))
+    leb (emptyEnd (s .form)) (r .address)
+    && leb (endOf (s .form) (r .address) (r .size)) (s .address)
+    && eqb (r .size) (recordSize (s .form) (r .entries) (r .name) (r .comment))
     && leb (r .entries) entryLimit
     && leb (r .name) nameLimit
     && leb (r .comment) commentLimit
@@ -122,32 +129,35 @@ recordLies s r =
 unfoldable pub recordFields : List ℕ → Setting → ℕ → Record → Bool
 recordFields history s k r =
     same (part history (r .address) 4) recordSignature
-    && same (part history (r .address + 4) 4) versionBytes
+    && same (part history (r .address + 4) 4) (versionBytes (s .form))
     && eqb (r .revision) k
     && ltb (r .parent) k
     && timeRight (timeOf history r)
     && within (s .original) limit (r .logical)
-    && eqb (r .page) (s .page)
+    && eqb (r .page) (s .form .page)
 
 unfoldable pub recordWrong : List ℕ → Setting → ℕ → Record → Bool
 recordWrong history s k r =
     not
     (recordLies s r
     && recordFields history s k r
-    && entriesRight s r 0 (indexOf history r)
-    && textRight (nameOf history r)
-    && textRight (commentOf history r))
+    && entriesRight s r 0 (indexOf history (s .form) r)
+    && textRight (nameOf history (s .form) r)
+    && textRight (commentOf history (s .form) r))
 
 -- 8: "record or entry checksum wrong"
-unfoldable pub recordSumWrong : List ℕ → Record → Bool
-recordSumWrong history r =
+unfoldable pub recordSumWrong : List ℕ → Form → Record → Bool
+recordSumWrong history f r =
     not
     (sumStands history (r .address) (r .size - 4) (r .address + (r .size - 4))
-    && sumsStand entryWidth 20 history (r .address + frontWidth) (r .entries))
+    && sumsStand (entryWidth f) (entrySumAt f) history (r .address + frontWidth f) (r .entries))
 
--- 9: "page checksum wrong"
+-- 9: "page checksum wrong", of the page of an entry, and of a page if the index has it.
 unfoldable pub pageSumWrong : List ℕ → ℕ → Entry → Bool
 pageSumWrong history p e = not (eqb (e .checksum) (checksum (part history (e .physical) p)))
+
+unfoldable pub pageWrong : List ℕ → ℕ → List Entry → ℕ → Bool
+pageWrong history p index a = hasPage index a && pageSumWrong history p (entryOf index a)
 
 -- "The checksum of each indexed page that the range shares a byte with is checked. A session reads its own pages first; neither
 -- they nor what they replace is checked."; "A write checks the checksum of each indexed page that it touches for the first time.":
@@ -155,7 +165,7 @@ pageSumWrong history p e = not (eqb (e .checksum) (checksum (part history (e .ph
 unfoldable pub pagesWrong : List ℕ → List ℕ → ℕ → List Entry → List ℕ → Bool
 pagesWrong own history p index [] = false
 pagesWrong own history p index (a ∷ pages) =
-    not (has own a) && hasPage index a && pageSumWrong history p (entryOf index a) || pagesWrong own history p index pages
+    not (has own a) && pageWrong history p index a || pagesWrong own history p index pages
 
 -- 10: "read or look-up outside the logical size; look-up address not a multiple of p; write starting past the size"
 unfoldable pub readOutside : ℕ → ℕ → ℕ → Bool
@@ -194,7 +204,7 @@ sessionWrong length s st =
     && leb (st .n) touchLimit
     && leb (st .size) limit
     && leb (ownAddress s st (st .n)) length
-    && pagesFit (s .page) (st .size) (ownPages st))
+    && pagesFit (s .form .page) (st .size) (ownPages st))
 
 -- Its last condition, "judged directly after 8": "size below its parent's logical size (for parent 0 the header's original length)"
 unfoldable pub sizeBelowParent : State → Record → Bool
@@ -210,7 +220,7 @@ noRoom length end = ltb length end
 
 -- 16: "time, name or comment against the layout"
 unfoldable pub textsWrong : List ℕ → List ℕ → List ℕ → Bool
-textsWrong time name comment = not (timeRight time && nameRight name && commentRight comment)
+textsWrong time name comment = not (commitTimeRight time && nameRight name && commentRight comment)
 
 -- 17: "creation: page size wrong or original over the limit"
 unfoldable pub creationWrong : ℕ → ℕ → Bool

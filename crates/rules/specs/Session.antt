@@ -1,5 +1,5 @@
 -- Document 01, "A session": opening, touching and writing pages, the merged index, the bytes of a commit, and creation.
-use Prim.Native.Nat.{ℕ, zero, suc, _+_, _*_, _-_, min, max}
+use Prim.Native.Nat.{ℕ, suc, _+_, _*_, _-_, min, max}
 use mathlib.Core.Bool.{Bool, true, false, cond}
 use mathlib.Core.List.{List, [], _∷_, _++_}
 use lib.Dec.{ltb, eqb}
@@ -8,19 +8,22 @@ use Rattle.rules.specs.Bytes.{part, laid, tabulate}
 use Rattle.rules.specs.Checksum.{checksum}
 use Rattle.rules.specs.Layout.{
   endOf,
-  headerEnd,
-  committedEnd,
-  withLock,
   headerBytes,
+  withLock,
+  committedEnd,
   wholeSize,
   wholeBytes,
+  locationWidth,
   locationBytes,
   locationAt,
-  recordBytes,
+  headerEnd,
   recordSize,
+  recordBytes,
 }
 use Rattle.rules.specs.View.{placeOf, has, ownPages, ownAddress, sessionByte, pagesShared}
+use Rattle.rules.specs.declared.Form.{Form}
 use Rattle.rules.specs.declared.Setting.{Setting}
+use Rattle.rules.specs.declared.Record.{Record}
 use Rattle.rules.specs.declared.Entry.{Entry}
 use Rattle.rules.specs.declared.State.{State}
 
@@ -31,11 +34,14 @@ ended = record { end = 0; count = 0; parent = 0; size = 0; n = 0; pages = replic
 -- ---- Creation
 
 -- "Creation is told the original's length, the page size and whether branching is allowed,
+abbrev pub createdForm : ℕ → Form
+createdForm page = record { page = page }
+
 abbrev pub createdSetting : ℕ → ℕ → Bool → Setting
 createdSetting original page branching = record {
-  page = page;
+  form = createdForm page;
   original = original;
-  address = 40;
+  address = headerEnd (createdForm page);
   size = wholeSize 0;
   count = 0;
   lock = false;
@@ -45,7 +51,8 @@ createdSetting original page branching = record {
 --  and writes 60 bytes: the header with these, lock clear, and a whole history of count 0."
 unfoldable pub created : List ℕ → ℕ → ℕ → Bool → List ℕ
 created history original page branching =
-    laid history 0 (headerBytes (createdSetting original page branching) ++ wholeBytes 0 [])
+    let s = createdSetting original page branching in
+    laid (laid history (s .address) (wholeBytes (s .form) 0 [])) 0 (headerBytes s)
 
 -- ---- Opening
 
@@ -101,7 +108,7 @@ withSize st size = record {
 -- "filled from the session's view and with zeros past the size": the p bytes of page a.
 unfoldable pub firstCopy : List ℕ → Setting → List Entry → ℕ → Held → List ℕ
 firstCopy original s index a held =
-    tabulate (s .page) (λ j. cond (ltb (a + j) (held .session .size)) (sessionByte original (held .history) s (held .session) index (a + j)) 0)
+    tabulate (s .form .page) (λ j. cond (ltb (a + j) (held .session .size)) (sessionByte original (held .history) s (held .session) index (a + j)) 0)
 
 -- "Each page .. is copied on first touch to the next free p bytes after the committed end".
 unfoldable pub touched : List ℕ → Setting → List Entry → ℕ → Held → Held
@@ -113,14 +120,19 @@ touched original s index a held =
       session = withPage st a;
     })
 
--- The bytes of the write that fall into page a, laid over the session's page: "a later touch rewrites it there".
+-- The bytes of a write at an offset that fall into page a, laid over that page, which stands at an address;
+unfoldable pub overPage : List ℕ → ℕ → ℕ → ℕ → ℕ → List ℕ → List ℕ
+overPage history to p a at bytes =
+    let first = max at a in
+    let last = min (at + length bytes) (a + p) in
+    laid history (to + (first - a)) (part bytes (first - at) (last - first))
+
+-- laid over the session's page: "a later touch rewrites it there".
 unfoldable pub laidOnPage : Setting → ℕ → List ℕ → ℕ → Held → Held
 laidOnPage s at bytes a held =
     let st = held .session in
-    let first = max at a in
-    let last = min (at + length bytes) (a + s .page) in
     record {
-      history = laid (held .history) (ownAddress s st (placeOf a (ownPages st)) + (first - a)) (part bytes (first - at) (last - first));
+      history = overPage (held .history) (ownAddress s st (placeOf a (ownPages st))) (s .form .page) a at bytes;
       session = st;
     }
 
@@ -133,7 +145,7 @@ writtenPages original s index at bytes (a ∷ pages) held =
 -- "Each page it shares a byte with, in rising order"; a write "may extend" the session's size.
 unfoldable pub written : List ℕ → Setting → List Entry → ℕ → List ℕ → Held → Held
 written original s index at bytes held =
-    let after = writtenPages original s index at bytes (pagesShared (s .page) at (length bytes)) held in
+    let after = writtenPages original s index at bytes (pagesShared (s .form .page) at (length bytes)) held in
     record {
       history = after .history;
       session = withSize (after .session) (max (held .session .size) (at + length bytes));
@@ -167,7 +179,7 @@ ownEntry history p from i a = record {
 
 -- "its index: the parent's, with the session's pages put in or put over".
 unfoldable pub mergedIndex : List ℕ → Setting → State → List Entry → List Entry
-mergedIndex history s st index = putAll (ownEntry history (s .page) (st .end)) 0 (ownPages st) index
+mergedIndex history s st index = putAll (ownEntry history (s .form .page) (st .end)) 0 (ownPages st) index
 
 -- How many entries would result if pages were put in: that goes by their addresses alone.
 abbrev pub placeless : ℕ → ℕ → Entry
@@ -179,43 +191,41 @@ mergedCount index pages = length (putAll placeless 0 pages index)
 -- ---- Commit
 
 -- "Commit appends after the session's pages the record,
-abbrev pub recordPlace : Setting → State → ℕ
-recordPlace s st = ownAddress s st (st .n)
+abbrev pub recordStored : Setting → State → ℕ → ℕ → ℕ → Record
+recordStored s st entries name comment = record {
+  address = ownAddress s st (st .n);
+  size = recordSize (s .form) entries name comment;
+  revision = s .count + 1;
+  parent = st .parent;
+  logical = st .size;
+  page = s .form .page;
+  entries = entries;
+  name = name;
+  comment = comment;
+}
 
---  then the new whole history,
-abbrev pub wholePlace : Setting → State → ℕ → ℕ
-wholePlace s st size = endOf s (recordPlace s st) size
-
---  then rewrites the header with the lock clear."
-abbrev pub committedSetting : Setting → State → ℕ → Setting
-committedSetting s st size = record {
-  page = s .page;
+--  then the new whole history, then rewrites the header with the lock clear."
+abbrev pub settingStored : Setting → Record → Setting
+settingStored s r = record {
+  form = s .form;
   original = s .original;
-  address = wholePlace s st size;
+  address = endOf (s .form) (r .address) (r .size);
   size = wholeSize (s .count + 1);
   count = s .count + 1;
   lock = false;
   branching = s .branching;
 }
 
--- The size of the record that a commit of the index, name and comment stores.
-abbrev pub sizeStored : List Entry → List ℕ → List ℕ → ℕ
-sizeStored index name comment = recordSize (length index) (length name) (length comment)
-
--- Where everything that a commit stores ends.
-abbrev pub commitEnd : Setting → State → ℕ → ℕ
-commitEnd s st size = committedEnd (committedSetting s st size)
-
 -- The locations that stand, and the new record's behind them.
-abbrev pub locationsStored : List ℕ → Setting → State → ℕ → List ℕ
-locationsStored history s st size =
-    part history (locationAt s 1) (20 * s .count) ++ locationBytes (recordPlace s st) size
+abbrev pub locationsStored : List ℕ → Setting → Record → List ℕ
+locationsStored history s r =
+    part history (locationAt s 1) (locationWidth * s .count) ++ locationBytes (s .form) (r .address) (r .size)
 
+-- "stores all four as given": the history after a commit of an index, with a time, a user ID, a name and a comment.
 unfoldable pub committed : List ℕ → Setting → State → List Entry → List ℕ → ℕ → List ℕ → List ℕ → List ℕ
 committed history s st index time user name comment =
-    let size = sizeStored index name comment in
-    let withRecord =
-    laid history (recordPlace s st)
-    (recordBytes (s .count + 1) (st .parent) time (st .size) (s .page) user index name comment) in
-    let withWhole = laid withRecord (wholePlace s st size) (wholeBytes (s .count + 1) (locationsStored history s st size)) in
-    laid withWhole 0 (headerBytes (committedSetting s st size))
+    let r = recordStored s st (length index) (length name) (length comment) in
+    let after = settingStored s r in
+    let withRecord = laid history (r .address) (recordBytes (s .form) r time user index name comment) in
+    let withWhole = laid withRecord (after .address) (wholeBytes (s .form) (after .count) (locationsStored history s r)) in
+    laid withWhole 0 (headerBytes after)

@@ -1,6 +1,6 @@
 -- Document 01, "Reading": the bytes of a revision and of a session, and the pages that a range shares bytes with.
 use Prim.Native.Nat.{ℕ, zero, suc, _+_, _*_, _-_, _/_, _%_}
-use mathlib.Core.Bool.{Bool, true, false, cond}
+use mathlib.Core.Bool.{Bool, cond}
 use mathlib.Core.List.{List, [], _∷_, map}
 use lib.Dec.{ltb, eqb}
 use lib.ListN.{length, take, getD}
@@ -58,14 +58,18 @@ ownPages st = take (st .n) (st .pages)
 
 -- Where own page i lies: behind the committed end and the own pages ahead of it.
 abbrev pub ownAddress : Setting → State → ℕ → ℕ
-ownAddress s st i = st .end + i * s .page
+ownAddress s st i = st .end + i * s .form .page
 
--- "A session reads its own pages first": byte i of the session, whose parent has the index.
-unfoldable pub sessionByte : List ℕ → List ℕ → Setting → State → List Entry → ℕ → ℕ
+-- "A session reads its own pages first": byte i where own pages lie from an end on, of a session whose parent has the index;
+unfoldable pub shownByte : List ℕ → List ℕ → ℕ → List Entry → ℕ → List ℕ → ℕ → ℕ
+shownByte original history p index end own i =
+    let a = pageOf p i in
+    cond (has own a) (byteAt history (end + placeOf a own * p + i % p)) (revisionByte original history p index i)
+
+-- of the session.
+abbrev pub sessionByte : List ℕ → List ℕ → Setting → State → List Entry → ℕ → ℕ
 sessionByte original history s st index i =
-    cond (has (ownPages st) (pageOf (s .page) i))
-    (byteAt history (ownAddress s st (placeOf (pageOf (s .page) i) (ownPages st)) + i % s .page))
-    (revisionByte original history (s .page) index i)
+    shownByte original history (s .form .page) index (st .end) (ownPages st) i
 
 abbrev pub sessionBytes : List ℕ → List ℕ → Setting → State → List Entry → ℕ → ℕ → List ℕ
 sessionBytes original history s st index at n = tabulate n (λ j. sessionByte original history s st index (at + j))

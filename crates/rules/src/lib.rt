@@ -1,10 +1,15 @@
 // The plain data that document 01 speaks of. What it means stands in specs/, one file a section of the paper. Those marked for C
 // are handed over by value as they stand.
 
-// What a history says of itself: its page size, the original's length, the whole history's address and size, how many
-// revisions stand, whether the write lock is set and whether branching is allowed. It is read once and handed on.
-pub struct Setting {
+// The form of a history: what its ends, widths and places go by.
+pub struct Form {
     pub page: u64,
+}
+
+// What a history says of itself: its form, the original's length, the whole history's address and size, how many revisions
+// stand, whether the write lock is set and whether branching is allowed. It is read once and handed on.
+pub struct Setting {
+    pub form: Form,
     pub original: u64,
     pub address: u64,
     pub size: u64,
@@ -32,6 +37,13 @@ pub struct Entry {
     pub logical: u64,
     pub physical: u64,
     pub checksum: u64,
+}
+
+// Where an index stands in a history of a form, and how many entries it has.
+pub struct Index {
+    pub form: Form,
+    pub at: usize,
+    pub entries: usize,
 }
 
 // A session's state: the committed end and the count that it was opened at, its parent, its logical size, and the n pages

@@ -2,45 +2,47 @@
 use mathlib.Core.Path.{_≡_}
 use mathlib.Core.Bool.{Bool, true, false, not, _&&_, _||_}
 use mathlib.Core.List.{List}
-use Prim.Native.Nat.{ℕ, _+_, _*_, _≤_, _<_}
+use Prim.Native.Nat.{ℕ, _*_, _≤_, _<_}
 use native.Mathlib.Nat.{mul-le-mul}
 use native.Mathlib.Omega.{arith}
 use lib.Dec.{leb, ltb, eqb}
 use lib.ListN.{length}
-use borrow.Author.Tests.{le-leb, lt-leb, lt-ltb, le-ltb, leb-true, ltb-true, ltb-false, eqb-true, not-true, not-false}
-use Rattle.rules.specs.Layout.{committedEnd}
+use borrow.Author.Tests.{le-leb, lt-leb, lt-ltb, le-ltb, leb-true, ltb-true, eqb-true, not-true, not-false}
+use Rattle.rules.specs.Layout.{limit, revisionLimit, touchLimit, settingOf, committedEnd}
 use Rattle.rules.specs.View.{ownPages, ownAddress}
 use Rattle.rules.specs.Rows.{pagesFit, sessionWrong, sizeBelowParent}
 use Rattle.rules.specs.Calls.{row, sessionRows}
 use Rattle.rules.specs.declared.Setting.{Setting}
 use Rattle.rules.specs.declared.Record.{Record}
 use Rattle.rules.specs.declared.State.{State}
-use Rattle.rules.proofs.Rows.{both, row-clear, then-clear}
-use Rattle.rules.proofs.Index.{page-fits, pages-differ}
+use Rattle.rules.proofs.Rows.{both}
+use Rattle.rules.proofs.Entries.{page-fits, pages-differ}
+use Rattle.whole.specs.Sound.{Sound}
+use Rattle.records.specs.Sound.{Standing}
 use Rattle.sessions.specs.Sound.{SoundSession}
 
--- What row 13 asks of the session's numbers, each for itself.
-abbrev pub numbersFit : Setting → State → Bool
-numbersFit s st =
-    s .lock && eqb (st .end) (committedEnd s) && eqb (st .count) (s .count) && ltb (st .count) 1024 && leb (st .parent) (st .count)
+-- What row 13 asks of the session's numbers, each for itself, by the committed end.
+abbrev numbersFit : ℕ → Setting → State → Bool
+numbersFit end s st =
+    s .lock && eqb (st .end) end && eqb (st .count) (s .count) && ltb (st .count) revisionLimit && leb (st .parent) (st .count)
     && (s .branching || eqb (st .parent) (st .count))
-    && leb (st .n) 256
-    && leb (st .size) 16777216
+    && leb (st .n) touchLimit
+    && leb (st .size) limit
 
 pub record NumbersFit (s : Setting) (st : State) : Type 0 where
   pub locked : s .lock ≡ true
-  pub end : st .end ≡ s .address + s .size
+  pub end : st .end ≡ committedEnd s
   pub count : st .count ≡ s .count
-  pub few : st .count < 1024
+  pub few : st .count < revisionLimit
   pub parent : st .parent ≤ st .count
-  pub touched : st .n ≤ 256
-  pub small : st .size ≤ 16777216
+  pub touched : st .n ≤ touchLimit
+  pub small : st .size ≤ limit
 
 -- So the sum that is judged next does not wrap.
-pub pages-short : {n p : ℕ} → n ≤ 256 → p ≤ 4096 → n * p ≤ 1048576
+pub pages-short : {n p : ℕ} → n ≤ touchLimit → p ≤ 4096 → n * p ≤ touchLimit * 4096
 pages-short h l = mul-le-mul h l
 
-pub numbers-fit : (s : Setting) (st : State) → numbersFit s st ≡ true → NumbersFit s st
+numbers-fit : (s : Setting) (st : State) → numbersFit (committedEnd s) s st ≡ true → NumbersFit s st
 numbers-fit s st t =
     let a7 = both _ _ t in
     let a6 = both _ _ (a7 .0) in
@@ -60,26 +62,30 @@ numbers-fit s st t =
     }
 
 module _ (length : ℕ) (s : Setting) (st : State) where
-  pub wrong-numbers : not (numbersFit s st) ≡ true → true ≡ sessionWrong length s st
-  unfolding sessionWrong
-  wrong-numbers h = rw (not-true (numbersFit s st) h)
+  module _ {end : ℕ} (e : end ≡ committedEnd s) where
+    pub wrong-numbers : not (numbersFit end s st) ≡ true → true ≡ sessionWrong length s st
+    unfolding sessionWrong
+    wrong-numbers h = rw (← e, not-true (numbersFit end s st) h)
 
-  pub wrong-room : not (numbersFit s st) ≡ false → length < st .end + st .n * s .page → true ≡ sessionWrong length s st
-  unfolding sessionWrong
-  wrong-room h l = rw (not-false (numbersFit s st) h, lt-leb _ _ l)
+    module _ (h : not (numbersFit end s st) ≡ false) where
+      pub numbers-right : NumbersFit s st
+      numbers-right = numbers-fit s st (rw (← e) (not-false (numbersFit end s st) h))
 
-  pub wrong-pages : {t : Bool} → not (numbersFit s st) ≡ false → st .end + st .n * s .page ≤ length
-      → t ≡ pagesFit (s .page) (st .size) (ownPages st) → not t ≡ sessionWrong length s st
-  unfolding sessionWrong
-  wrong-pages h l e = rw (not-false (numbersFit s st) h, le-leb _ _ l, e)
+      pub wrong-room : length < ownAddress s st (st .n) → true ≡ sessionWrong length s st
+      unfolding sessionWrong
+      wrong-room l = rw (← e, not-false (numbersFit end s st) h, lt-leb _ _ l)
+
+      pub wrong-pages : {t : Bool} → ownAddress s st (st .n) ≤ length → t ≡ pagesFit (s .form .page) (st .size) (ownPages st) → not t ≡ sessionWrong length s st
+      unfolding sessionWrong
+      wrong-pages l q = rw (← e, not-false (numbersFit end s st) h, le-leb _ _ l, q)
 
   -- What row 13 leaves.
   pub right-parts : sessionWrong length s st ≡ false
-      → NumbersFit s st × (st .end + st .n * s .page ≤ length) × (pagesFit (s .page) (st .size) (ownPages st) ≡ true)
+      → NumbersFit s st × (ownAddress s st (st .n) ≤ length) × (pagesFit (s .form .page) (st .size) (ownPages st) ≡ true)
   unfolding sessionWrong
   right-parts e =
-      let a = both (numbersFit s st && leb (ownAddress s st (st .n)) length) _ (not-false _ e) in
-      let b = both (numbersFit s st) _ (a .0) in
+      let a = both (numbersFit (committedEnd s) s st && leb (ownAddress s st (st .n)) length) _ (not-false _ e) in
+      let b = both (numbersFit (committedEnd s) s st) _ (a .0) in
       (numbers-fit s st (b .0), leb-true _ _ (b .1), a .1)
 
 -- Its last condition.
@@ -91,25 +97,26 @@ pub not-below : (st : State) {r p : Record} → r ≡ p → r .logical ≤ st .s
 unfolding row sizeBelowParent
 not-below st {r} e h = rw (← e, le-ltb (st .size) (r .logical) h)
 
-pub session-sound : (h : List ℕ) (s : Setting) (st : State) → sessionRows h s st ≡ 0 → SoundSession h s st
-unfolding sessionRows sizeBelowParent
-session-sound h s st e =
-    let a = then-clear _ _ e in
-    let b = then-clear _ _ (a .1) in
-    let w = right-parts (length h) s st (row-clear 13 _ (omega arith) (a .0)) in
-    let fit = page-fits (s .page) (st .size) (ownPages st) (w .2) in
+pub session-sound : (h : List ℕ) (s : Setting) (st : State) {r : Record} → sessionWrong (length h) s st ≡ false → Standing h s (st .parent) r → r .logical ≤ st .size
+    → SoundSession h s st r
+session-sound h s st e q g =
+    let w = right-parts (length h) s st e in
+    let fit = page-fits (s .form .page) (st .size) (ownPages st) (w .2) in
     record {
+      parent = q;
+      grown = g;
       locked = w .0 .locked;
       end = w .0 .end;
-      count = w .0 .count;
-      few = omega arith;
-      parent = omega arith;
+      few = omega (arith, w .0 .count, w .0 .few);
       touched = w .0 .touched;
       small = w .0 .small;
       room = w .1;
-      rows = b .0;
-      grown = ltb-false _ _ (row-clear 13 _ (omega arith) (b .1));
       multiple = λ k l. fit k l .0;
       below = λ k l. fit k l .1;
-      differ = pages-differ (s .page) (st .size) (ownPages st) (w .2);
+      differ = pages-differ (s .form .page) (st .size) (ownPages st) (w .2);
     }
+
+-- ---- The rows of the setting that was read are those of the history's.
+
+pub rows-of-history : {h : List ℕ} {s : Setting} (st : State) {n : ℕ} → Sound h s → n ≡ sessionRows h s st → n ≡ sessionRows h (settingOf h) st
+rows-of-history st w e = rw (w .setting) at e

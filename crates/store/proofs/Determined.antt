@@ -3,8 +3,6 @@ use mathlib.Core.Path.{_≡_, sym, ap, _∙_}
 use mathlib.Core.List.{List}
 use Prim.Native.Nat.{ℕ}
 use Rattle.rules.specs.Calls.{Outcome}
-use Rattle.rules.specs.declared.State.{State}
-use Rattle.store.specs.declared.Session.{Session}
 use Rattle.store.specs.declared.Answer.{Answer}
 
 -- The outcome of an answer, in the rules' words.

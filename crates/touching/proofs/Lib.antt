@@ -1,5 +1,4 @@
 pub mod Copies
-pub mod Range
 pub mod Touches
 pub mod Loop
 pub mod Counting

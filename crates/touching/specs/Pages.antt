@@ -5,14 +5,16 @@ use mathlib.Core.List.{List}
 use Prim.Native.Nat.{ℕ, _+_, _*_, _-_, _≤_, _<_, min, max}
 use lib.Dec.{ltb}
 use lib.ListN.{length, getD}
-use Rattle.rules.specs.Bytes.{byteAt, part, laid}
-use Rattle.rules.specs.Layout.{entriesAt}
+use Rattle.rules.specs.Bytes.{byteAt}
+use Rattle.rules.specs.Layout.{limit, touchLimit, entriesWidth, entriesIn}
+use Rattle.rules.specs.Orders.{Rising}
 use Rattle.rules.specs.View.{noEntry, logicals, hasPage, entryOf, ownPages}
 use Rattle.rules.specs.Session.{touching, mergedCount}
 use Rattle.rules.specs.declared.Setting.{Setting}
+use Rattle.rules.specs.declared.Index.{Index}
 use Rattle.rules.specs.declared.Entry.{Entry}
 use Rattle.rules.specs.declared.State.{State}
-use Rattle.index.specs.Rising.{Rising}
+use Rattle.layout.specs.Paged.{Paged}
 
 -- Byte j of the page at address a, of a revision.
 unfoldable pub pageByte : List ℕ → List ℕ → List Entry → ℕ → ℕ → ℕ
@@ -23,18 +25,18 @@ unfoldable pub keptByte : List ℕ → List ℕ → List Entry → ℕ → ℕ �
 keptByte original history index a size j = cond (ltb (a + j) size) (pageByte original history index a j) 0
 
 -- The index and the stored pages, up to n bytes from a place in them on, lie ahead of an address, which has room for n bytes.
-pub record Source (h : List ℕ) (at entries to from n : ℕ) : Type 0 where
+pub record Source (h : List ℕ) (x : Index) (to from n : ℕ) : Type 0 where
   pub room : to + n ≤ length h
-  pub ahead : at + 24 * entries ≤ to
-  pub rising : Rising (logicals (entriesAt h at entries))
-  pub stored : (k : ℕ) → k < entries → getD (entriesAt h at entries) k noEntry .physical + (from + n) ≤ to
+  pub ahead : x .at + entriesWidth (x .form) (x .entries) ≤ to
+  pub rising : Rising (logicals (entriesIn h x))
+  pub stored : (k : ℕ) → k < x .entries → getD (entriesIn h x) k noEntry .physical + (from + n) ≤ to
 
 -- A page of p bytes at an address shares a byte with a write of n bytes at an offset.
 pub record Shares (p a offset n : ℕ) : Type 0 where
   pub small : p ≤ 4096
   pub below : a < offset + n
   pub above : offset < a + p
-  pub short : offset + n ≤ 16777216
+  pub short : offset + n ≤ limit
 
 -- The bytes of the write from the one to the other fall into the page, behind `skip` of its bytes.
 pub record Within (p a offset n skip from end : ℕ) : Type 0 where
@@ -45,29 +47,23 @@ pub record Within (p a offset n skip from end : ℕ) : Type 0 where
   pub in-bytes : end ≤ n
   pub in-page : skip + (end - from) ≤ p
 
--- The history with the bytes of a write that fall into the page laid over it, which stands at `to`.
-unfoldable pub over : List ℕ → ℕ → ℕ → ℕ → ℕ → List ℕ → List ℕ
-over history to p a offset bytes =
-    laid history (to + (max offset a - a)) (part bytes (max offset a - offset) (min (offset + length bytes) (a + p) - max offset a))
-
 -- The pages can be touched.
-pub record Ready (h : List ℕ) (s : Setting) (at entries : ℕ) (index : List Entry) (st : State) (pages : List ℕ) : Type 0 where
-  pub least : 16 ≤ s .page
-  pub most : s .page ≤ 4096
-  pub short : length h ≤ 16777216
-  pub small : st .size ≤ 16777216
-  pub full : length (st .pages) ≡ 256
-  pub few : st .n ≤ 256
+pub record Ready (h : List ℕ) (s : Setting) (x : Index) (index : List Entry) (st : State) (pages : List ℕ) : Type 0 where
+  pub sized : Paged (s .form)
+  pub short : length h ≤ limit
+  pub small : st .size ≤ limit
+  pub full : length (st .pages) ≡ touchLimit
+  pub few : st .n ≤ touchLimit
   -- The index, which no touch changes.
-  pub same : entriesAt h at entries ≡ index
-  pub ahead : at + 24 * entries ≤ st .end
+  pub same : entriesIn h x ≡ index
+  pub ahead : x .at + entriesWidth (x .form) (x .entries) ≤ st .end
   pub rising : Rising (logicals index)
-  pub stored : (k : ℕ) → k < entries → getD index k noEntry .physical + s .page ≤ st .end
+  pub stored : (k : ℕ) → k < x .entries → getD index k noEntry .physical + s .form .page ≤ st .end
   -- Rows 14 and 15.
-  pub touches : length (touching (ownPages st) pages) ≤ 256
-  pub room : st .end + length (touching (ownPages st) pages) * s .page ≤ length h
+  pub touches : length (touching (ownPages st) pages) ≤ touchLimit
+  pub room : st .end + length (touching (ownPages st) pages) * s .form .page ≤ length h
 
 -- How many pages and entries pages touched would leave; once there are over 256 pages they need not be counted further.
 pub record Counted (index : List Entry) (own pages : List ℕ) (touched merged : ℕ) : Type 0 where
-  pub over : 256 < touched → 256 < length (touching own pages)
-  pub exact : touched ≤ 256 → (touched ≡ length (touching own pages)) × (merged ≡ mergedCount index (touching own pages))
+  pub over : touchLimit < touched → touchLimit < length (touching own pages)
+  pub exact : touched ≤ touchLimit → (touched ≡ length (touching own pages)) × (merged ≡ mergedCount index (touching own pages))

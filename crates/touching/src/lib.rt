@@ -1,41 +1,45 @@
 // The pages of a write: the bytes are laid over them, and what is left of a page is copied with them at its first touch.
+use rules::Index;
 use rules::Setting;
 use rules::State;
 ghost use mathlib.Core.Path.{_≡_};
-ghost use Prim.Native.Nat.{_+_, _-_, _*_, _%_, _≤_, _<_, min, max};
+ghost use Prim.Native.Nat.{_+_, _-_, _≤_, min};
 ghost use lib.ListN.{length, take};
 ghost use Rattle.rules.specs.Bytes.{laid, tabulate};
-ghost use Rattle.rules.specs.Layout.{entriesAt};
-ghost use Rattle.rules.specs.View.{logicals, pagesFrom};
-ghost use Rattle.rules.specs.Session.{Held, writtenPages, mergedCount};
-ghost use Rattle.index.specs.Rising.{Rising};
-ghost use Rattle.touching.specs.Pages.{Source, Ready, Shares, Within, Counted, pageByte, keptByte, over};
+ghost use Rattle.rules.specs.Layout.{limit, entryLimit, touchLimit, entriesWidth, entriesIn};
+ghost use Rattle.rules.specs.Orders.{Rising};
+ghost use Rattle.rules.specs.View.{logicals, pagesShared};
+ghost use Rattle.rules.specs.Session.{Held, overPage, writtenPages, mergedCount};
+ghost use Rattle.layout.specs.Paged.{Paged, farthest};
+ghost use Rattle.touching.specs.Pages.{Source, Ready, Shares, Within, Counted, pageByte, keptByte};
 
-// Lays n bytes of the page at an address, from a place in the page on: of the stored page, else of the original.
-fn put_page(
-    history: &mut [u8],
-    original: &[u8],
-    at: usize,
-    entries: usize,
-    to: usize,
+// ---- One page
+
+// A page as a session shows it before its first touch: the index that may have it, its address, and the session's size, past which
+// it is zero.
+struct Page {
+    x: Index,
     address: usize,
-    from: usize,
-    n: usize,
-)
-    requires { ⌜ (Source (now history) at entries to from n) × (address + from ≤ 33554432) ⌝ }
-    ensures { λ _. ⌜ now (history .exit) ≡ laid (now (history .entry)) to (tabulate n (λ j. pageByte (now (original .entry)) (now (history .entry)) (entriesAt (now (history .entry)) at entries) address (from + j))) ⌝ }
+    size: usize,
+}
+
+// Lays n bytes of the page, from a place in it on: of the stored page, else of the original.
+fn put_page(history: &mut [u8], original: &[u8], p: Page, to: usize, from: usize, n: usize)
+    requires { ⌜ (Source (now history) (p .x) to from n) × (p .address + from ≤ farthest) ⌝ }
+    ensures { λ _. ⌜ now (history .exit) ≡ laid (now (history .entry)) to (tabulate n (λ j. pageByte (now (original .entry)) (now (history .entry)) (entriesIn (now (history .entry)) (p .x)) (p .address) (from + j))) ⌝ }
 {
     // A page that is written over as a whole is not looked up.
     if n == 0 {
         return;
     }
-    let place = index::find(history, at, entries, address as u64);
-    if place < entries {
-        let e = index::entry(history, at, place);
+    let x = p.x;
+    let place = index::find(history, x, p.address as u64);
+    if place < x.entries {
+        let e = index::entry(history, x, place);
         numbers::copy_run(history, e.physical as usize + from, to, n);
         return;
     }
-    view::put_original(history, to, original, address + from, n);
+    view::put_original(history, to, original, p.address + from, n);
 }
 
 // How many of n bytes from an address on lie below a size.
@@ -51,32 +55,13 @@ fn keep_of(n: usize, size: usize, address: usize) -> usize
     n
 }
 
-// Lays n bytes of a session's page, from a place in the page on: those past the session's size are zero.
-fn put_kept(
-    history: &mut [u8],
-    original: &[u8],
-    at: usize,
-    entries: usize,
-    to: usize,
-    address: usize,
-    size: usize,
-    from: usize,
-    n: usize,
-)
-    requires { ⌜ (Source (now history) at entries to from n) × (address + from ≤ 33554432) ⌝ }
-    ensures { λ _. ⌜ now (history .exit) ≡ laid (now (history .entry)) to (tabulate n (λ j. keptByte (now (original .entry)) (now (history .entry)) (entriesAt (now (history .entry)) at entries) address size (from + j))) ⌝ }
+// Lays n bytes of the page, from a place in it on: those past the session's size are zero.
+fn put_kept(history: &mut [u8], original: &[u8], p: Page, to: usize, from: usize, n: usize)
+    requires { ⌜ (Source (now history) (p .x) to from n) × (p .address + from ≤ farthest) ⌝ }
+    ensures { λ _. ⌜ now (history .exit) ≡ laid (now (history .entry)) to (tabulate n (λ j. keptByte (now (original .entry)) (now (history .entry)) (entriesIn (now (history .entry)) (p .x)) (p .address) (p .size) (from + j))) ⌝ }
 {
-    let keep = keep_of(n, size, address + from);
-    put_page(
-        &mut *history,
-        original,
-        at,
-        entries,
-        to,
-        address,
-        from,
-        keep,
-    );
+    let keep = keep_of(n, p.size, p.address + from);
+    put_page(&mut *history, original, p, to, from, keep);
     numbers::put_zeros(history, to + keep, n - keep);
 }
 
@@ -104,7 +89,7 @@ fn run_in(page: usize, address: usize, offset: usize, n: usize) -> Run
 // Lays a write over one of the session's own pages, which stands at `to`.
 fn put_own(history: &mut [u8], to: usize, page: usize, address: usize, offset: usize, bytes: &[u8])
     requires { ⌜ (Shares page address offset (length (now bytes))) × (to + page ≤ length (now history)) ⌝ }
-    ensures { λ _. ⌜ now (history .exit) ≡ over (now (history .entry)) to page address offset (now (bytes .entry)) ⌝ }
+    ensures { λ _. ⌜ now (history .exit) ≡ overPage (now (history .entry)) to page address offset (now (bytes .entry)) ⌝ }
 {
     let run = run_in(page, address, offset, bytes.len());
     let from = run.from;
@@ -116,148 +101,121 @@ fn put_own(history: &mut [u8], to: usize, page: usize, address: usize, offset: u
 fn put_new(
     history: &mut [u8],
     original: &[u8],
-    at: usize,
-    entries: usize,
+    p: Page,
     to: usize,
     page: usize,
-    address: usize,
-    size: usize,
     offset: usize,
     bytes: &[u8],
 )
-    requires { ⌜ (Shares page address offset (length (now bytes))) × (Source (now history) at entries to 0 page) ⌝ }
-    ensures { λ _. ⌜ now (history .exit) ≡ over (laid (now (history .entry)) to (tabulate page (keptByte (now (original .entry)) (now (history .entry)) (entriesAt (now (history .entry)) at entries) address size))) to page address offset (now (bytes .entry)) ⌝ }
+    requires { ⌜ (Shares page (p .address) offset (length (now bytes))) × (Source (now history) (p .x) to 0 page) ⌝ }
+    ensures { λ _. ⌜ now (history .exit) ≡ overPage (laid (now (history .entry)) to (tabulate page (keptByte (now (original .entry)) (now (history .entry)) (entriesIn (now (history .entry)) (p .x)) (p .address) (p .size)))) to page (p .address) offset (now (bytes .entry)) ⌝ }
 {
-    let run = run_in(page, address, offset, bytes.len());
+    let run = run_in(page, p.address, offset, bytes.len());
     let from = run.from;
     let end = run.end;
     let behind = run.skip + (end - from);
-    put_kept(
-        &mut *history,
-        original,
-        at,
-        entries,
-        to,
-        address,
-        size,
-        0,
-        run.skip,
-    );
+    put_kept(&mut *history, original, p, to, 0, run.skip);
     numbers::put_run(&mut *history, to + run.skip, &bytes[from..end]);
     put_kept(
         &mut *history,
         original,
-        at,
-        entries,
+        p,
         to + behind,
-        address,
-        size,
         behind,
         page - behind,
     );
 }
 
-// A write over m pages from an address on, in rising order. None of them is one that the write itself touched before, so only
-// the pages that the session had ahead of the write are searched.
+// ---- All of a write's pages
+
+// A write over each page that it shares a byte with, in rising order. None of them is one that the write itself touched before, so
+// only the pages that the session had ahead of the write are searched.
 pub fn write_pages(
     st: State,
     original: &[u8],
     history: &mut [u8],
     s: Setting,
-    at: usize,
-    entries: usize,
+    x: Index,
     offset: usize,
     bytes: &[u8],
-    step: u32,
-    first: u32,
-    m: usize,
 ) -> State
-    requires { ⌜ (Ready (now history) s at entries (entriesAt (now history) at entries) st (pagesFrom (s .page) first m)) × (first % s .page ≡ 0) × (step ≡ s .page) ⌝ }
-    requires { ⌜ (first ≤ offset) × (offset < first + s .page) × (first + m * s .page < offset + length (now bytes) + s .page) × (offset + length (now bytes) ≤ 16777216) ⌝ }
+    requires { ⌜ Ready (now history) s x (entriesIn (now history) x) st (pagesShared (s .form .page) offset (length (now bytes))) ⌝ }
+    requires { ⌜ offset + length (now bytes) ≤ limit ⌝ }
     ensures { λ r. ⌜ _≡_ {A = Held} (record { history = now (history .exit); session = r })
-        (writtenPages (now (original .entry)) s (entriesAt (now (history .entry)) at entries) offset (now (bytes .entry)) (pagesFrom (s .page) first m) (record { history = now (history .entry); session = st })) ⌝ }
+        (writtenPages (now (original .entry)) s (entriesIn (now (history .entry)) x) offset (now (bytes .entry)) (pagesShared (s .form .page) offset (length (now (bytes .entry)))) (record { history = now (history .entry); session = st })) ⌝ }
 {
+    let step = s.form.page as usize;
+    let m = view::pages_in(step, offset, bytes.len());
     let before = st.n as usize;
     let mut t = st;
-    let mut a = first;
+    let mut a = offset / step * step;
     let mut k: usize = 0;
     while k < m {
+        // Read here, so that the loop's invariant speaks of the setting.
+        let page = s.form.page as usize;
         let here = a;
-        a += step;
+        a += page;
         k += 1;
-        let page = s.page as usize;
         let place = index::own_place(&st.pages, before, here as u64);
         if place < before {
             let to = t.end as usize + place * page;
-            put_own(&mut *history, to, page, here as usize, offset, bytes);
+            put_own(&mut *history, to, page, here, offset, bytes);
         } else {
             let n = t.n as usize;
             let to = t.end as usize + n * page;
-            let size = t.size as usize;
-            put_new(
-                &mut *history,
-                original,
-                at,
-                entries,
-                to,
-                page,
-                here as usize,
-                size,
-                offset,
-                bytes,
-            );
-            t.pages[n] = here;
+            let p = Page {
+                x,
+                address: here,
+                size: t.size as usize,
+            };
+            put_new(&mut *history, original, p, to, page, offset, bytes);
+            t.pages[n] = here as u32;
             t.n += 1;
         }
     }
     t
 }
 
-// How many pages and entries a write over m pages from an address on would leave.
+// How many pages and entries a write would leave.
 pub struct Counts {
     pub touched: usize,
     pub merged: usize,
 }
 
-// Counts them, and leaves off once there are over 256 pages.
+// Counts them for a write of `len` bytes at an offset into a session of n pages, whose index would have `before` entries without
+// the write. It leaves off once there are over 256 pages.
 pub fn count_pages(
     history: &[u8],
-    at: usize,
-    entries: usize,
+    x: Index,
     pages: &[u32],
     n: usize,
     before: usize,
-    step: u64,
-    first: u64,
-    m: usize,
+    offset: usize,
+    len: usize,
 ) -> Counts
-    requires { ⌜ (at + 24 * entries ≤ length (now history)) × (Rising (logicals (entriesAt (now history) at entries))) × (n ≤ length (now pages)) × (n ≤ 256) ⌝ }
-    requires { ⌜ (before ≡ mergedCount (entriesAt (now history) at entries) (take n (now pages))) × (before ≤ 4096 + n) × (0 < step) × (first + m * step ≤ 33554432) ⌝ }
-    ensures { λ r. ⌜ Counted (entriesAt (now (history .entry)) at entries) (take n (now (pages .entry))) (pagesFrom step first m) (r .touched) (r .merged) ⌝ }
+    requires { ⌜ (x .at + entriesWidth (x .form) (x .entries) ≤ length (now history)) × (Rising (logicals (entriesIn (now history) x))) × (n ≤ length (now pages)) × (n ≤ touchLimit) ⌝ }
+    requires { ⌜ (before ≡ mergedCount (entriesIn (now history) x) (take n (now pages))) × (before ≤ entryLimit + n) × (Paged (x .form)) × (offset + len ≤ limit) ⌝ }
+    ensures { λ r. ⌜ Counted (entriesIn (now (history .entry)) x) (take n (now (pages .entry))) (pagesShared (x .form .page) offset len) (r .touched) (r .merged) ⌝ }
 {
+    let page = x.form.page as usize;
+    let m = view::pages_in(page, offset, len);
     let mut touched = n;
     let mut merged = before;
-    let mut a = first;
+    let mut a = offset / page * page;
     let mut k: usize = 0;
     while k < m {
-        if 256 < touched {
-            return Counts {
-                touched: touched,
-                merged: merged,
-            };
+        if (layout::TOUCHED as usize) < touched {
+            return Counts { touched, merged };
         }
-        let here = a;
-        a += step;
+        let here = a as u64;
+        a += page;
         k += 1;
         if n <= index::own_place(pages, n, here) {
             touched += 1;
-            if entries <= index::find(history, at, entries, here) {
+            if x.entries <= index::find(history, x, here) {
                 merged += 1;
             }
         }
     }
-    Counts {
-        touched: touched,
-        merged: merged,
-    }
+    Counts { touched, merged }
 }

@@ -1,30 +1,33 @@
 -- The bytes of a view, page by page.
-use mathlib.Core.Path.{_≡_, refl, sym, ap, _∙_}
+use mathlib.Core.Path.{_≡_, sym, ap, _∙_}
 use mathlib.Core.Bool.{cond}
-use mathlib.Core.List.{List, [], _∷_, _++_}
-use Prim.Native.Nat.{ℕ, zero, suc, _+_, _*_, _-_, _/_, _%_, _≤_, _<_}
-use native.Mathlib.Nat.{zero-add, add-assoc, div-add-mod', add-mul-div-right, add-mul-mod-self-right, div-eq-of-lt, mod-eq-of-lt, mul-le-mul-right, suc-mul}
+use mathlib.Core.List.{List}
+use Prim.Native.Nat.{ℕ, suc, _+_, _*_, _-_, _%_, _≤_, _<_}
+use native.Mathlib.Nat.{zero-add, add-assoc, mul-le-mul-right, suc-mul}
 use native.Mathlib.Omega.{arith}
 use lib.ListN.{length, take, drop, getD, replicate, List·getD-eq-default}
 use Rattle.rules.specs.Bytes.{byteAt, part, laid, tabulate}
-use Rattle.rules.specs.Layout.{entryAt}
-use Rattle.rules.specs.View.{placeOf, has, logicals, hasPage, entryOf, pageOf, revisionByte}
+use Rattle.rules.specs.Layout.{entriesWidth, entryAt, entriesIn}
+use Rattle.rules.specs.View.{placeOf, logicals, hasPage, entryOf, pageOf, revisionByte}
+use Rattle.rules.specs.declared.Index.{Index}
 use Rattle.rules.specs.declared.Entry.{Entry}
-use Rattle.rules.proofs.Bytes.{laid-then, laid-whole, laid-nothing, length-laid, length-tabulate, tabulate-append, tabulate-same, part-tabulate}
-use Rattle.view.specs.Seen.{Seen, indexIn, viewByte, shown, originalByte}
+use Rattle.rules.proofs.Bytes.{
+  laid-then,
+  laid-whole,
+  laid-nothing,
+  length-laid,
+  length-tabulate,
+  tabulate-append,
+  tabulate-same,
+  part-tabulate,
+  tabulate-zeros,
+}
+use Rattle.rules.proofs.Range.{page-of, page-there, entry-there}
+use Rattle.view.specs.Seen.{Seen, originalByte}
 use Rattle.view.specs.declared.View.{View}
-use Rattle.view.proofs.Pages.{page-there, entry-there}
+use Rattle.view.proofs.Pages.{pageSize}
 
 -- ---- The original
-
-zeros-behind : (m : ℕ) → _≡_ {A = List ℕ} (replicate (suc m) 0) (replicate m 0 ++ (0 ∷ []))
-zeros-behind zero = refl
-zeros-behind (suc m) = ap (λ (l : List ℕ). 0 ∷ l) (zeros-behind m)
-
-tabulate-zeros : (f : ℕ → ℕ) (n : ℕ) → ((j : ℕ) → j < n → f j ≡ 0) → _≡_ {A = List ℕ} (replicate n 0) (tabulate n f)
-unfolding tabulate
-tabulate-zeros f zero z = refl
-tabulate-zeros f (suc n) z = zeros-behind n ∙ rw (tabulate-zeros f n (λ j l. z j (omega arith)), z n (omega arith))
 
 module _ (o x0 : List ℕ) (to from n : ℕ) where
   -- All past the original's end.
@@ -49,35 +52,34 @@ module _ (o x0 : List ℕ) (to from n : ℕ) where
 
 -- ---- One page
 
--- Offsets in one page.
-pub page-of : (p from j : ℕ) → 0 < p → from % p + j < p → (pageOf p (from + j) ≡ pageOf p from) × ((from + j) % p ≡ from % p + j)
-page-of p from j h l =
-    let e : from + j ≡ from % p + j + from / p * p = omega (arith, div-add-mod' from p) in
-    rw e
-    (rw (add-mul-div-right (from % p + j) (from / p) h, div-eq-of-lt l, zero-add) refl, rw add-mul-mod-self-right (mod-eq-of-lt l))
+-- The bytes of a revision, counted from an offset.
+abbrev pub revision : List ℕ → List ℕ → Index → ℕ → ℕ → ℕ
+revision o h x from j = revisionByte o h (x .form .page) (entriesIn h x) (from + j)
 
-module _ (o h : List ℕ) (v : View) (from n : ℕ) (w : Seen h v) (fits : from % v .page + n ≤ v .page) where
-  -- What the revision shows.
+module _ (o h : List ℕ) (x : Index) (from n : ℕ) (some : 0 < x .form .page) (fits : from % x .form .page + n ≤ x .form .page) where
+  abbrev here : ℕ
+  here = pageOf (x .form .page) from
+
+  -- They lie in one page.
   in-page : (j : ℕ) → j < n
-      → shown o h v [] from j ≡ cond (hasPage (indexIn h v) (pageOf (v .page) from)) (byteAt h (entryOf (indexIn h v) (pageOf (v .page) from) .physical + (from % v .page + j))) (byteAt o (from + j))
-  unfolding viewByte revisionByte placeOf
-  in-page j q = let z = page-of (v .page) from j (omega (arith, w .least)) (omega arith) in rw (z .0, z .1)
+      → revision o h x from j ≡ cond (hasPage (entriesIn h x) here) (byteAt h (entryOf (entriesIn h x) here .physical + (from % x .form .page + j))) (byteAt o (from + j))
+  unfolding revisionByte
+  in-page j q = let z = page-of (x .form .page) from j some (omega arith) in rw (z .0, z .1)
 
-  -- In a page that the index has.
-  pub shown-stored : (place : ℕ) {e : Entry} → place ≡ placeOf (pageOf (v .page) from) (logicals (indexIn h v)) → place < v .entries → e ≡ entryAt h (v .index + 24 * place)
-      → e .physical + from % v .page + n ≤ length h
-      → part h (e .physical + from % v .page) n ≡ tabulate n (shown o h v [] from)
+  -- The index has it.
+  pub shown-stored : (place : ℕ) {e : Entry} → place ≡ placeOf here (logicals (entriesIn h x)) → place < x .entries
+      → e ≡ entryAt (x .form) h (x .at + entriesWidth (x .form) place)
+      → e .physical + from % x .form .page + n ≤ length h
+      → part h (e .physical + from % x .form .page) n ≡ tabulate n (revision o h x from)
   shown-stored place {e} f lp q room =
-      let g : e ≡ entryOf (indexIn h v) (pageOf (v .page) from) = q ∙ entry-there h v (pageOf (v .page) from) f lp in
+      let g : e ≡ entryOf (entriesIn h x) here = q ∙ entry-there h x here f lp in
       part-tabulate h _ n room
       ∙ tabulate-same n _ _
-      (λ j k.
-      sym (in-page j k ∙ rw (page-there h v (pageOf (v .page) from) f lp, ← g)
-      (ap (λ (i : ℕ). getD h i 0) (sym (add-assoc (e .physical) (from % v .page) j)))))
+      (λ j k. sym (in-page j k ∙ rw (page-there h x here f lp, ← g) (ap (λ (i : ℕ). getD h i 0) (sym (add-assoc (e .physical) (from % x .form .page) j)))))
 
 -- ---- All of a buffer
 
--- The first `done` bytes of a buffer are those that the view shows.
+-- The first `done` bytes of a buffer are those that are shown.
 pub record ShownSoFar (f : ℕ → ℕ) (before now : List ℕ) (done : ℕ) : Type 0 where
   pub within : done ≤ length before
   pub bytes : now ≡ laid before 0 (tabulate done f)
@@ -112,10 +114,9 @@ pub stored-run : (x0 h : List ℕ) (to from n : ℕ) {x1 : List ℕ} → x1 ≡ 
 stored-run x0 h to from n e = let q : from + n - from ≡ n = omega arith in e ∙ rw q
 
 -- An own page lies in the history.
-pub own-room : {h : List ℕ} {v : View} → Seen h v → (mine : ℕ) → mine < v .own → v .end + mine * v .page + v .page ≤ length h
-own-room {h} {v} w mine l = let q : suc mine * v .page ≤ v .own * v .page = mul-le-mul-right (v .page) l in omega (arith, w .owned, suc-mul mine (v .page))
+pub own-room : {h : List ℕ} {v : View} → Seen h v → (mine : ℕ) → mine < v .own → v .end + mine * pageSize v + pageSize v ≤ length h
+own-room {h} {v} w mine l = let q : suc mine * pageSize v ≤ v .own * pageSize v = mul-le-mul-right (pageSize v) l in omega (arith, w .owned, suc-mul mine (pageSize v))
 
 -- The bytes from a further offset on.
-pub shown-further : (o h : List ℕ) (v : View) (own : List ℕ) (from done some : ℕ)
-    → tabulate some (shown o h v own (from + done)) ≡ tabulate some (λ j. shown o h v own from (done + j))
-shown-further o h v own from done some = tabulate-same some _ _ (λ j l. ap (viewByte o h v own) (add-assoc from done j))
+pub shown-further : (o h : List ℕ) (x : Index) (from done some : ℕ) → tabulate some (revision o h x (from + done)) ≡ tabulate some (λ j. revision o h x from (done + j))
+shown-further o h x from done some = tabulate-same some _ _ (λ j l. ap (revisionByte o h (x .form .page) (entriesIn h x)) (add-assoc from done j))

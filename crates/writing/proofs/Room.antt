@@ -1,12 +1,13 @@
 -- Rows 14 and 15 of a write, from what would result.
 use Prim.Native.Nat.{ℕ, _+_, _*_, _≤_, _<_}
-use mathlib.Core.Path.{_≡_, refl, sym, _∙_}
+use mathlib.Core.Path.{_≡_, refl, sym}
 use mathlib.Core.Bool.{Bool, true, false, _||_, false≢true}
 use mathlib.Core.List.{List}
 use native.Mathlib.Omega.{arith}
 use lib.Dec.{ltb}
 use lib.ListN.{length}
-use borrow.Author.Tests.{lt-ltb, le-ltb, ltb-true, ltb-false}
+use borrow.Author.Tests.{lt-ltb, le-ltb, ltb-false}
+use Rattle.rules.specs.Layout.{touchLimit, entryLimit}
 use Rattle.rules.specs.Session.{touching, mergedCount}
 use Rattle.rules.specs.Rows.{tooMany, noRoom}
 use Rattle.rules.specs.Calls.{row, _then_}
@@ -14,37 +15,37 @@ use Rattle.rules.specs.declared.Entry.{Entry}
 use Rattle.rules.proofs.Rows.{row-holds, row-past, last-holds, last-past, row-clear, then-clear}
 use Rattle.touching.specs.Pages.{Counted}
 
--- Row 14.
+-- Rows 14 and 15.
 abbrev pub roomRows : List Entry → List ℕ → ℕ → ℕ → ℕ → ℕ
 roomRows index own long end p = row 14 (tooMany index own) then row 15 (noRoom long (end + length own * p))
 
-many-pages : (index : List Entry) (own : List ℕ) → 256 < length own → true ≡ tooMany index own
+many-pages : (index : List Entry) (own : List ℕ) → touchLimit < length own → true ≡ tooMany index own
 unfolding tooMany
-many-pages index own l = rw (lt-ltb 256 (length own) l)
+many-pages index own l = rw (lt-ltb touchLimit (length own) l)
 
-many-entries : (index : List Entry) (own : List ℕ) → length own ≤ 256 → 4096 < mergedCount index own → true ≡ tooMany index own
+many-entries : (index : List Entry) (own : List ℕ) → length own ≤ touchLimit → entryLimit < mergedCount index own → true ≡ tooMany index own
 unfolding tooMany
-many-entries index own k l = rw (le-ltb 256 (length own) k, lt-ltb 4096 (mergedCount index own) l)
+many-entries index own k l = rw (le-ltb touchLimit (length own) k, lt-ltb entryLimit (mergedCount index own) l)
 
-few-enough : (index : List Entry) (own : List ℕ) → length own ≤ 256 → mergedCount index own ≤ 4096 → false ≡ tooMany index own
+few-enough : (index : List Entry) (own : List ℕ) → length own ≤ touchLimit → mergedCount index own ≤ entryLimit → false ≡ tooMany index own
 unfolding tooMany
-few-enough index own k l = rw (le-ltb 256 (length own) k, le-ltb 4096 (mergedCount index own) l)
+few-enough index own k l = rw (le-ltb touchLimit (length own) k, le-ltb entryLimit (mergedCount index own) l)
 
 room-is : (long end : ℕ) → ltb long end ≡ noRoom long end
 unfolding noRoom
 room-is long end = refl
 
 module _ {index : List Entry} {own pages : List ℕ} {touched merged : ℕ} (long end p : ℕ) (c : Counted index own pages touched merged) where
-  pub room-pages : 256 < touched → 14 ≡ roomRows index (touching own pages) long end p
+  pub room-pages : touchLimit < touched → 14 ≡ roomRows index (touching own pages) long end p
   room-pages l = row-holds 14 _ (omega arith) (many-pages index (touching own pages) (c .over l)) refl
 
-  module _ (few : touched ≤ 256) where
-    pub room-entries : 4096 < merged → 14 ≡ roomRows index (touching own pages) long end p
+  module _ (few : touched ≤ touchLimit) where
+    pub room-entries : entryLimit < merged → 14 ≡ roomRows index (touching own pages) long end p
     room-entries l =
         let e = c .exact few in
         row-holds 14 _ (omega arith) (many-entries index (touching own pages) (omega (arith, e .0)) (omega (arith, e .1))) refl
 
-    module _ (low : merged ≤ 4096) where
+    module _ (low : merged ≤ entryLimit) where
       past : {k : ℕ} → k ≡ row 15 (noRoom long (end + length (touching own pages) * p)) → k ≡ roomRows index (touching own pages) long end p
       past h =
           let e = c .exact few in
@@ -61,16 +62,16 @@ module _ {index : List Entry} {own pages : List ℕ} {touched merged : ℕ} (lon
 
 -- What they leave.
 pub record Roomy (index : List Entry) (own : List ℕ) (long end p : ℕ) : Type 0 where
-  pub touches : length own ≤ 256
+  pub touches : length own ≤ touchLimit
   pub room : end + length own * p ≤ long
 
-few-pages : (index : List Entry) (own : List ℕ) → tooMany index own ≡ false → length own ≤ 256
+few-pages : (index : List Entry) (own : List ℕ) → tooMany index own ≡ false → length own ≤ touchLimit
 unfolding tooMany
-few-pages index own e = go (ltb 256 (length own)) refl e
+few-pages index own e = go (ltb touchLimit (length own)) refl e
   where
-    go : (b : Bool) → ltb 256 (length own) ≡ b → b || ltb 4096 (mergedCount index own) ≡ false → length own ≤ 256
+    go : (b : Bool) → ltb touchLimit (length own) ≡ b → b || ltb entryLimit (mergedCount index own) ≡ false → length own ≤ touchLimit
     go true q f = absurd (false≢true (sym f))
-    go false q _ = ltb-false 256 (length own) q
+    go false q _ = ltb-false touchLimit (length own) q
 
 pub rows-roomy : (index : List Entry) (own : List ℕ) (long end p : ℕ) → roomRows index own long end p ≡ 0 → Roomy index own long end p
 unfolding noRoom

@@ -1,36 +1,20 @@
-use mathlib.Core.Path.{sym, _∙_}
-use Rattle.browsing.proofs.Place.{rows-clear, clear-at, place-refused, place-found}
+-- The record that the rows have passed is the one that is lent.
+use Rattle.browsing.proofs.Place.{place-refused, place-found}
 use borrow.Author.Needs.{needs}
 use Rattle.browsing.proofs.browse_place.Statement.{statement}
 use Rattle.browsing.proofs.browse_place.Tie as tie
 
-browse-rows-requires : tie.Need-browse-rows-requires
-browse-rows-requires c κs = search needs
+judge-alone-requires : tie.Need-judge-alone-requires
+judge-alone-requires c κs = search needs
 
 returns : tie.Need-returns
-returns c = place-refused _ _ (c .before .browse-rows .ensures) (c .if1 .taken)
-
-setting-requires : tie.Need-setting-requires
-setting-requires c κs = rows-clear _ _ (sym (c .before .browse-rows .ensures) ∙ c .if1 .left) .sound
-
-asked-requires : tie.Need-asked-requires
-asked-requires c κs = search needs
-
-record-of-requires : tie.Need-record-of-requires
-record-of-requires c κs =
-    let w = clear-at _ _ (rows-clear _ _ (sym (c .before .before .before .browse-rows .ensures) ∙ c .before .before .if1 .left)) (c .before .setting .ensures .setting) (c .asked .ensures) in
-    (c .before .setting .ensures, w .0, w .1)
+returns c = place-refused _ _ (c .before .before .judge-alone .ensures .0) (c .if1 .taken)
 
 returns-2 : tie.Need-returns-2
-returns-2 c = place-found _ _ (c .before .before .before .before .browse-rows .ensures) (c .before .before .before .if1 .left) (c .before .before .setting .ensures .setting) (c .before .asked .ensures) (c .record-of .ensures .0)
+returns-2 c =
+    let judged = c .before .before .before .judge-alone .ensures in
+    let zero = c .before .if1 .left in
+    place-found _ _ (judged .0) zero (judged .1 zero)
 
 pub browse-place-spec : {M : Type 1} → statement M
-browse-place-spec =
-    tie.close
-    (tie.spec
-    browse-rows-requires
-    returns
-    setting-requires
-    asked-requires
-    record-of-requires
-    returns-2)
+browse-place-spec = tie.close (tie.spec judge-alone-requires returns returns-2)

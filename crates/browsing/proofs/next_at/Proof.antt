@@ -1,3 +1,4 @@
+-- A step that gives an entry moves on, and any other stays.
 use native.Mathlib.Omega.{arith}
 use Rattle.browsing.proofs.Steps.{next-behind, next-stays, next-within}
 use borrow.Author.Needs.{needs}

@@ -1,16 +1,16 @@
+-- What is left of the check is the rule of what is left, and a fault that is found is its whole answer.
 use Prim.Native.Nat.{_-_}
 use native.Mathlib.Omega.{arith}
-use mathlib.Core.Path.{sym, _∙_}
-use Rattle.checking.proofs.Checking.{RevisionsLeft, EntriesLeft, page-ahead, revisions-start, revisions-end, revisions-fault, entries-start, entries-fault, entries-turn, entries-end}
+use Rattle.checking.proofs.Checking.{RevisionsLeft, EntriesLeft, index-inside, page-inside, revisions-start, revisions-end, revisions-fault, entries-start, entries-fault, entries-turn, entries-end}
 use borrow.Author.Needs.{needs}
 use Rattle.checking.proofs.check_revisions.Statement.{statement}
 use Rattle.checking.proofs.check_revisions.Tie as tie
 
 abbrev Inv-loop : tie.InvT-loop
-Inv-loop history s found₀ end k number at entries j₀ found j = EntriesLeft history s k at entries found j
+Inv-loop history s found₀ end k x entries j₀ found j = EntriesLeft history s k x found j
 
 abbrev μ-loop : tie.MeasureT-loop
-μ-loop history s found₀ end k number at entries j₀ found j = entries - j
+μ-loop history s found₀ end k x entries j₀ found j = entries - j
 
 abbrev Inv-revisions : tie.InvT-revisions
 Inv-revisions history s found₀ end k₀ found k = RevisionsLeft history s found k
@@ -24,24 +24,26 @@ add-end c = search needs
 revisions-holds : tie.Need-revisions-holds Inv-loop μ-loop Inv-revisions μ-revisions
 revisions-holds c = revisions-start _ _
 
-record-rows-requires : tie.Need-record-rows-requires Inv-loop μ-loop Inv-revisions μ-revisions
-record-rows-requires c κs = search needs
+judge-requires : tie.Need-judge-requires Inv-loop μ-loop Inv-revisions μ-revisions
+judge-requires c κs = (c .before .before .before .before .pre, search needs)
 
-record-of-requires : tie.Need-record-of-requires Inv-loop μ-loop Inv-revisions μ-revisions
-record-of-requires c κs = (c .before .before .before .before .before .before .pre, search needs, sym (c .before .record-rows .ensures) ∙ c .if1 .left)
-
-index-at-requires : tie.Need-index-at-requires Inv-loop μ-loop Inv-revisions μ-revisions
-index-at-requires c κs = search needs
+index-in-requires : tie.Need-index-in-requires Inv-loop μ-loop Inv-revisions μ-revisions
+index-in-requires c κs = let w = c .before .before .judge .ensures .1 (c .if1 .left) in (omega (arith, w .right .below, w .sound .inside, w .sound .short), w .right .few)
 
 loop-holds : tie.Need-loop-holds Inv-loop μ-loop Inv-revisions μ-revisions
-loop-holds c = entries-start (c .before .before .before .before .before .revisions .inv) (search needs) (c .before .before .before .record-rows .ensures) (c .before .before .if1 .left) (c .before .record-of .ensures .0) (c .index-at .ensures)
+loop-holds c =
+    let judged = c .before .before .before .judge .ensures in
+    let zero = c .before .if1 .left in
+    entries-start (c .before .before .before .before .before .revisions .inv) (search needs) (judged .0) zero (judged .1 zero) (c .index-in .ensures)
 
 entry-requires : tie.Need-entry-requires Inv-loop μ-loop Inv-revisions μ-revisions
-entry-requires c κs = search needs
+entry-requires c κs = (index-inside (c .before .before .before .before .before .judge .ensures .1 (c .before .before .before .if1 .left)) (c .before .before .index-in .ensures), search needs)
 
 page-sum-wrong-requires :
     tie.Need-page-sum-wrong-requires Inv-loop μ-loop Inv-revisions μ-revisions
-page-sum-wrong-requires c κs = omega (arith, page-ahead _ _ (c .before .before .loop .j) (c .before .before .before .before .record-of .ensures .1) (c .before .before .before .index-at .ensures) (search needs) (c .entry .ensures .0))
+page-sum-wrong-requires c κs =
+    let w = c .before .before .before .before .before .before .judge .ensures .1 (c .before .before .before .before .if1 .left) in
+    (page-inside w (c .before .before .before .index-in .ensures) _ (search needs) (c .entry .ensures), w .sound .short)
 
 add-j : tie.Need-add-j Inv-loop μ-loop Inv-revisions μ-revisions
 add-j c = search needs
@@ -50,7 +52,7 @@ loop-less : tie.Need-loop-less Inv-loop μ-loop Inv-revisions μ-revisions
 loop-less c = search needs
 
 loop-again : tie.Need-loop-again Inv-loop μ-loop Inv-revisions μ-revisions
-loop-again c = entries-turn (c .before .before .before .before .loop .inv) (search needs) (c .before .before .entry .ensures .0) (c .before .page-sum-wrong .ensures) (c .if2 .left)
+loop-again c = entries-turn (c .before .before .before .before .loop .inv) (search needs) (c .before .before .entry .ensures) (c .before .page-sum-wrong .ensures) (c .if2 .left)
 
 add-k : tie.Need-add-k Inv-loop μ-loop Inv-revisions μ-revisions
 add-k c = search needs
@@ -65,10 +67,10 @@ returns : tie.Need-returns Inv-loop μ-loop Inv-revisions μ-revisions
 returns c = revisions-end (c .before .revisions .inv) (search needs)
 
 returns-2 : tie.Need-returns-2 Inv-loop μ-loop Inv-revisions μ-revisions
-returns-2 c = revisions-fault (c .before .before .before .revisions .inv) (search needs) (c .before .record-rows .ensures) (c .if1 .taken)
+returns-2 c = revisions-fault (c .before .before .before .before .revisions .inv) (search needs) (c .before .before .judge .ensures .0) (c .if1 .taken)
 
 returns-3 : tie.Need-returns-3 Inv-loop μ-loop Inv-revisions μ-revisions
-returns-3 c = entries-fault (c .before .before .before .before .loop .inv) (search needs) (c .before .before .entry .ensures .0) (c .before .page-sum-wrong .ensures) (c .if2 .taken)
+returns-3 c = entries-fault (c .before .before .before .before .loop .inv) (search needs) (c .before .before .entry .ensures) (c .before .page-sum-wrong .ensures) (c .if2 .taken)
 
 pub check-revisions-spec : {M : Type 1} → statement M
 check-revisions-spec =
@@ -80,9 +82,8 @@ check-revisions-spec =
     μ-revisions
     add-end
     revisions-holds
-    record-rows-requires
-    record-of-requires
-    index-at-requires
+    judge-requires
+    index-in-requires
     loop-holds
     entry-requires
     page-sum-wrong-requires

@@ -1,3 +1,4 @@
+-- The words behind those passed go to the totals one by one, an odd last byte as a high half.
 use mathlib.Core.Path.{_≡_}
 use Prim.Native.Nat.{_-_}
 use lib.ListN.{length}

@@ -1,3 +1,4 @@
+-- Both totals are folded, their bytes put in order, and joined.
 use mathlib.Core.Path.{_∙_}
 use borrow.Author.Needs.{needs}
 use Rattle.checksum.proofs.finish.Statement.{statement}

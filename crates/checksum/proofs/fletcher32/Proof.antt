@@ -1,3 +1,4 @@
+-- The whole is one block, whose totals do not wrap.
 use borrow.Author.Needs.{needs}
 use Rattle.checksum.proofs.Laws.{answer, whole-sixteen}
 use Rattle.checksum.proofs.fletcher32.Statement.{statement}

@@ -1,3 +1,4 @@
+-- Blocks of even length, with the sums folded between them, leave the same remainders.
 use mathlib.Core.Path.{_≡_}
 use Prim.Native.Nat.{_-_, _≤_, _<_}
 use native.Mathlib.Omega.{arith}

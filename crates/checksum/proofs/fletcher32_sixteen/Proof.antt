@@ -1,3 +1,4 @@
+-- Four words and four more are the eight words of sixteen bytes.
 use borrow.Author.Needs.{needs}
 use Rattle.checksum.proofs.Laws.{sixteen-answer}
 use Rattle.checksum.proofs.fletcher32_sixteen.Statement.{statement}

@@ -1,3 +1,4 @@
+-- It is the rule, of zero and of every other total.
 use native.Mathlib.Omega.{arith}
 use borrow.Author.Needs.{needs}
 use Rattle.checksum.proofs.Laws.{folded-positive}

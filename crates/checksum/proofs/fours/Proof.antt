@@ -1,3 +1,4 @@
+-- Each turn passes four words.
 use mathlib.Core.Path.{_≡_}
 use Prim.Native.Nat.{_-_}
 use lib.ListN.{length}

@@ -1,3 +1,4 @@
+-- A number below 65,536 fills the bits that the shift leaves free.
 use Rattle.checksum.proofs.Laws.{joined}
 use Rattle.checksum.proofs.join.Statement.{statement}
 use Rattle.checksum.proofs.join.Tie as tie

@@ -1,3 +1,4 @@
+-- Each turn adds the totals of whole rows, in which the first sum counts once a word.
 use mathlib.Core.Path.{_≡_, refl}
 use Prim.Native.Nat.{_-_, _%_}
 use native.Mathlib.Omega.{arith}

@@ -1,3 +1,4 @@
+-- The lanes pass all but a few bytes, and those go word by word.
 use borrow.Author.Needs.{needs}
 use Rattle.checksum.proofs.Laws.{ordered-rest}
 use Rattle.checksum.proofs.last_block.Statement.{statement}

@@ -1,3 +1,4 @@
+-- 256 times a sum leaves the remainder of its bytes swapped.
 use native.Mathlib.Omega.{arith}
 use Rattle.checksum.proofs.Laws.{swapped}
 use borrow.Author.Needs.{needs}

@@ -1,34 +1,37 @@
-use mathlib.Core.Path.{sym, _∙_}
-use Rattle.committing.proofs.Judged.{held-sound, held-open, standing, standing-of, clear-held, clear-small, committable, commit-refused, commit-accepted}
+-- Judged once; then record, whole history and, last, the header.
+use native.Mathlib.Omega.{arith}
+use Rattle.committing.proofs.Layings.{texts-room, record-laid, extensible, commit-leaves}
+use Rattle.committing.proofs.Rows.{commit-refused, commit-accepted}
 use borrow.Author.Needs.{needs}
 use Rattle.committing.proofs.commit.Statement.{statement}
 use Rattle.committing.proofs.commit.Tie as tie
 
-commit-rows-requires : tie.Need-commit-rows-requires
-commit-rows-requires c κs = search needs
+judge-requires : tie.Need-judge-requires
+judge-requires c κs = search needs
 
 same-length : tie.Need-same-length
 same-length c = search needs
 
 returns : tie.Need-returns
-returns c = commit-refused (c .before .before .before .before .before .before .before .args .st) _ _ _ _ (c .before .before .before .before .before .before .before .args .user) (c .before .commit-rows .ensures) (c .if1 .taken)
+returns c =
+    let a = c .before .before .before .before .before .before .before .before .args in
+    commit-refused (a .st) _ _ _ _ (a .user) (c .before .before .judge .ensures .0) (c .if1 .taken)
 
-setting-requires : tie.Need-setting-requires
-setting-requires c κs = held-sound (c .before .before .before .before .before .before .before .before .args .st) _ (clear-held (c .before .before .before .before .before .before .before .before .args .st) _ _ _ _ (sym (c .before .before .commit-rows .ensures) ∙ c .before .if1 .left))
+put-indexed-requires : tie.Need-put-indexed-requires
+put-indexed-requires c κs =
+    let w = c .before .before .before .before .before .judge .ensures .1 (c .before .before .before .if1 .left) in
+    (w .standing, w .timed)
 
-record-of-requires : tie.Need-record-of-requires
-record-of-requires c κs =
-    let q = held-open (c .before .before .before .before .before .before .before .before .before .before .args .st) _ (c .before .setting .ensures .setting) (clear-held (c .before .before .before .before .before .before .before .before .before .before .args .st) _ _ _ _ (sym (c .before .before .before .before .commit-rows .ensures) ∙ c .before .before .before .if1 .left)) in
-    (c .before .setting .ensures, q .parent, q .rows)
+put-texts-requires : tie.Need-put-texts-requires
+put-texts-requires c κs =
+    let w = c .before .before .before .before .before .before .before .before .before .judge .ensures .1 (c .before .before .before .before .before .before .before .if1 .left) in
+    let q = w .standing in
+    (omega (arith, texts-room q, w .named, w .commented), omega (arith, q .session .parent .sound .short), q .few)
 
-merged-entries-requires : tie.Need-merged-entries-requires
-merged-entries-requires c κs = standing-of (standing (c .before .before .before .before .before .before .before .before .before .before .before .before .args .st) _ (clear-held (c .before .before .before .before .before .before .before .before .before .before .before .before .args .st) _ _ _ _ (sym (c .before .before .before .before .before .before .commit-rows .ensures) ∙ c .before .before .before .before .before .if1 .left)) (c .before .before .before .setting .ensures) (c .before .record-of .ensures))
-
-record-stored-requires : tie.Need-record-stored-requires
-record-stored-requires c κs = clear-small (c .before .before .before .before .before .before .before .before .before .before .before .before .before .args .st) _ _ _ _ (sym (c .before .before .before .before .before .before .before .commit-rows .ensures) ∙ c .before .before .before .before .before .before .if1 .left) (c .before .before .before .before .setting .ensures) (c .before .before .record-of .ensures) (c .merged-entries .ensures)
-
-put-commit-requires : tie.Need-put-commit-requires
-put-commit-requires c κs = committable (c .before .before .before .before .before .before .before .before .before .before .before .before .before .before .before .args .st) _ _ _ _ (sym (c .before .before .before .before .before .before .before .before .before .commit-rows .ensures) ∙ c .before .before .before .before .before .before .before .before .if1 .left) (c .before .before .before .before .before .before .setting .ensures) (c .before .before .before .before .record-of .ensures) (c .before .before .merged-entries .ensures) (c .before .record-stored .ensures)
+put-end-requires : tie.Need-put-end-requires
+put-end-requires c κs =
+    let w = c .before .before .before .before .before .before .before .before .before .before .before .before .before .judge .ensures .1 (c .before .before .before .before .before .before .before .before .before .before .before .if1 .left) in
+    extensible w (c .before .before .before .before .before .before .before .before .before .before .before .before .before .before .before .before .before .before .before .args .user) _ (record-laid w (c .before .before .before .before .before .before .before .before .before .before .before .before .before .before .before .before .before .before .before .args .user) _ _ (c .before .before .before .before .before .before .before .put-indexed .ensures) (c .before .before .before .put-texts .ensures))
 
 ended-requires : tie.Need-ended-requires
 ended-requires c κs = search needs
@@ -37,20 +40,24 @@ same-length-2 : tie.Need-same-length-2
 same-length-2 c = search needs
 
 returns-2 : tie.Need-returns-2
-returns-2 c = commit-accepted (c .before .before .before .before .before .before .before .before .before .before .before .before .before .before .before .before .before .before .before .args .st) _ _ _ _ (c .before .before .before .before .before .before .before .before .before .before .before .before .before .before .before .before .before .before .before .args .user) (c .before .before .before .before .before .before .before .before .before .before .before .before .before .commit-rows .ensures) (c .before .before .before .before .before .before .before .before .before .before .before .before .if1 .left) (c .before .before .before .before .before .before .before .before .before .before .setting .ensures .setting) (c .before .before .before .before .before .before .before .before .record-of .ensures .0) (c .before .before .before .put-commit .ensures) (c .ended .ensures)
+returns-2 c =
+    let judged = c .before .before .before .before .before .before .before .before .before .before .before .before .before .before .before .before .before .judge .ensures in
+    let zero = c .before .before .before .before .before .before .before .before .before .before .before .before .before .before .before .if1 .left in
+    let w = judged .1 zero in
+    let a = c .before .before .before .before .before .before .before .before .before .before .before .before .before .before .before .before .before .before .before .before .before .before .before .args in
+    let recorded = record-laid w (a .user) _ _ (c .before .before .before .before .before .before .before .before .before .before .before .put-indexed .ensures) (c .before .before .before .before .before .before .before .put-texts .ensures) in
+    commit-accepted (a .st) _ _ _ _ (a .user) (judged .0) zero (w .standing .session) (commit-leaves w (a .user) _ recorded _ (c .before .before .before .put-end .ensures)) (c .ended .ensures)
 
 pub commit-spec : {M : Type 1} → statement M
 commit-spec =
     tie.close
     (tie.spec
-    commit-rows-requires
+    judge-requires
     same-length
     returns
-    setting-requires
-    record-of-requires
-    merged-entries-requires
-    record-stored-requires
-    put-commit-requires
+    put-indexed-requires
+    put-texts-requires
+    put-end-requires
     ended-requires
     same-length-2
     returns-2)

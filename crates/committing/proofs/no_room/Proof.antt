@@ -1,5 +1,5 @@
-use native.Mathlib.Omega.{arith}
-use Rattle.committing.proofs.Judged.{end-fits, room-is}
+-- The record's end is near the record, so the sum does not wrap.
+use Rattle.committing.proofs.Rows.{room-is, setting-near}
 use borrow.Author.Needs.{needs}
 use Rattle.committing.proofs.no_room.Statement.{statement}
 use Rattle.committing.proofs.no_room.Tie as tie
@@ -7,11 +7,17 @@ use Rattle.committing.proofs.no_room.Tie as tie
 setting-stored-requires : tie.Need-setting-stored-requires
 setting-stored-requires c κs = search needs
 
-add-result : tie.Need-add-result
-add-result c = omega (arith, end-fits _ _ (c .before .setting-stored .ensures) (c .before .before .pre .0) (c .before .before .pre .1) (c .before .before .pre .2))
+end-of-requires : tie.Need-end-of-requires
+end-of-requires c κs =
+    let begin = c .before .before in
+    let p = begin .pre in
+    let near = setting-near (begin .args .s) (begin .args .r) (c .setting-stored .ensures) (p .0) (p .1) (p .2) (p .3) in
+    (near .0, near .1, near .2)
 
 returns : tie.Need-returns
-returns c = room-is _ _ (c .before .setting-stored .ensures) _
+returns c =
+    let a = c .before .before .before .args in
+    room-is _ (a .s) (a .r) (c .before .setting-stored .ensures) (c .end-of .ensures)
 
 pub no-room-spec : {M : Type 1} → statement M
-no-room-spec = tie.close (tie.spec setting-stored-requires add-result returns)
+no-room-spec = tie.close (tie.spec setting-stored-requires end-of-requires returns)

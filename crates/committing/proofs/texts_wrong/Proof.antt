@@ -1,3 +1,4 @@
+-- Each test is one of the row.
 use Rattle.rules.specs.Rows.{textsWrong}
 use borrow.Author.Needs.{needs}
 use Rattle.committing.proofs.texts_wrong.Statement.{statement}

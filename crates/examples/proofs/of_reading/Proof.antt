@@ -1,3 +1,4 @@
+-- The buffer is as long as what is shown of it.
 use mathlib.Core.Path.{sym}
 use lib.Seq.{length-take-le}
 use borrow.Author.Needs.{needs}

@@ -1,3 +1,4 @@
+-- The text is no longer than the buffer.
 use mathlib.Core.Path.{sym}
 use lib.Seq.{length-take-le}
 use borrow.Author.Needs.{needs}

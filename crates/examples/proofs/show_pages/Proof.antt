@@ -1,3 +1,4 @@
+-- Each turn shows one page.
 use native.Mathlib.Omega.{arith}
 use borrow.Author.Needs.{needs}
 use Rattle.examples.proofs.show_pages.Statement.{statement}

@@ -1,5 +1,5 @@
+-- The mask leaves the second bit.
 use Rattle.header.proofs.Flags.{branching-mask}
-use borrow.Author.Needs.{needs}
 use Rattle.header.proofs.branching_allowed.Statement.{statement}
 use Rattle.header.proofs.branching_allowed.Tie as tie
 

@@ -1,3 +1,4 @@
+-- The mask leaves what is four or more.
 use Rattle.header.proofs.Flags.{rest-mask}
 use borrow.Author.Needs.{needs}
 use Rattle.header.proofs.flags_allowed.Statement.{statement}

@@ -1,3 +1,4 @@
+-- Each of the four cases is its own number.
 use mathlib.Core.Bool.{true, false}
 use Rattle.header.proofs.Fields.{flags-are}
 use borrow.Author.Needs.{needs}

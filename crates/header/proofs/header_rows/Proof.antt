@@ -1,5 +1,7 @@
+-- Row 1 leaves what rows 2 and 3 rest on.
 use mathlib.Core.Path.{sym, _∙_}
 use native.Mathlib.Omega.{arith}
+use Rattle.rules.specs.Layout.{headerWidth}
 use Rattle.rules.specs.Calls.{headerRows}
 use Rattle.rules.proofs.Rows.{row-holds, row-past, last-holds, last-past}
 use Rattle.header.proofs.Fields.{length-right}
@@ -15,14 +17,14 @@ unfolding headerRows
 returns c = row-holds 1 _ (omega arith) (c .before .length-wrong .ensures) (c .if1 .taken)
 
 header-wrong-requires : tie.Need-header-wrong-requires
-header-wrong-requires c κs = length-right 40 _ (sym (c .before .length-wrong .ensures) ∙ c .if1 .left) .0
+header-wrong-requires c κs = length-right headerWidth _ (sym (c .before .length-wrong .ensures) ∙ c .if1 .left) .0
 
 returns-2 : tie.Need-returns-2
 unfolding headerRows
 returns-2 c = row-past 1 _ (c .before .before .before .length-wrong .ensures) (c .before .before .if1 .left) (row-holds 2 _ (omega arith) (c .before .header-wrong .ensures) (c .if2 .taken))
 
 header-sum-wrong-requires : tie.Need-header-sum-wrong-requires
-header-sum-wrong-requires c κs = length-right 40 _ (sym (c .before .before .before .length-wrong .ensures) ∙ c .before .before .if1 .left)
+header-sum-wrong-requires c κs = length-right headerWidth _ (sym (c .before .before .before .length-wrong .ensures) ∙ c .before .before .if1 .left)
 
 returns-3 : tie.Need-returns-3
 unfolding headerRows

@@ -1,3 +1,4 @@
+-- The row is that no checksum stands.
 use mathlib.Core.Bool.{not}
 use mathlib.Core.Path.{ap}
 use Rattle.rules.specs.Rows.{headerSumWrong}

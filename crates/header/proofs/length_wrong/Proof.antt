@@ -1,6 +1,6 @@
+-- Both tests are the row's.
 use mathlib.Core.Path.{refl}
 use Rattle.rules.specs.Rows.{lengthWrong}
-use borrow.Author.Needs.{needs}
 use Rattle.header.proofs.length_wrong.Statement.{statement}
 use Rattle.header.proofs.length_wrong.Tie as tie
 

@@ -1,5 +1,5 @@
+-- The mask leaves the lowest bit.
 use Rattle.header.proofs.Flags.{lock-mask}
-use borrow.Author.Needs.{needs}
 use Rattle.header.proofs.lock_set.Statement.{statement}
 use Rattle.header.proofs.lock_set.Tie as tie
 

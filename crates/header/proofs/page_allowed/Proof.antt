@@ -1,3 +1,4 @@
+-- A number below 16 is refused before it divides.
 use Rattle.header.proofs.Fields.{page-small, page-large}
 use borrow.Author.Needs.{needs}
 use Rattle.header.proofs.page_allowed.Statement.{statement}

@@ -1,3 +1,4 @@
+-- The header is filled in a local and laid over the front in one run.
 use mathlib.Core.Path.{ap, _∙_}
 use Rattle.rules.specs.Bytes.{laid}
 use borrow.Author.Needs.{needs}

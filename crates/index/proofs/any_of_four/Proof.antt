@@ -1,3 +1,4 @@
+-- None of the four tests held.
 use Rattle.index.proofs.Search.{four-pages}
 use borrow.Author.Needs.{needs}
 use Rattle.index.proofs.any_of_four.Statement.{statement}
@@ -37,7 +38,9 @@ shared-slice-read-result-4 : tie.Need-shared-slice-read-result-4
 shared-slice-read-result-4 c = search needs
 
 returns : tie.Need-returns
-returns c = λ h. four-pages (c .before .before .before .before .args .pages .now) (c .before .before .before .before .args .page) (c .before .before .before .before .args .at) h
+returns c =
+    let a = c .before .before .before .before .args in
+    λ h. four-pages (a .pages .now) (a .page) (a .at) h
 
 pub any-of-four-spec : {M : Type 1} → statement M
 any-of-four-spec =

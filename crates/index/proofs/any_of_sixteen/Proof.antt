@@ -1,3 +1,4 @@
+-- In none of the four blocks the page stands.
 use Rattle.index.proofs.Search.{four-blocks}
 use borrow.Author.Needs.{needs}
 use Rattle.index.proofs.any_of_sixteen.Statement.{statement}
@@ -25,7 +26,12 @@ any-of-four-requires-4 : tie.Need-any-of-four-requires-4
 any-of-four-requires-4 c κs = search needs
 
 returns : tie.Need-returns
-returns c = λ h. four-blocks (c .before .before .before .before .before .args .pages .now) (c .before .before .before .before .before .args .page) (c .before .before .before .before .before .args .at) (c .before .before .before .any-of-four .result) (c .before .before .any-of-four2 .result) (c .before .any-of-four3 .result) (c .any-of-four4 .result) (c .before .before .before .any-of-four .ensures) (c .before .before .any-of-four2 .ensures) (c .before .any-of-four3 .ensures) (c .any-of-four4 .ensures) h
+returns c =
+    let third = c .before in
+    let second = third .before in
+    let first = second .before in
+    let a = first .before .before .args in
+    λ h. four-blocks (a .pages .now) (a .page) (a .at) _ _ _ _ (first .any-of-four .ensures) (second .any-of-four2 .ensures) (third .any-of-four3 .ensures) (c .any-of-four4 .ensures) h
 
 pub any-of-sixteen-spec : {M : Type 1} → statement M
 any-of-sixteen-spec =

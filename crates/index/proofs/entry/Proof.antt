@@ -1,40 +1,29 @@
-use borrow.Author.Needs.{needs}
+-- The place lies within the entries, so the entry there does.
+use mathlib.Core.Path.{_∙_}
+use native.Mathlib.Omega.{arith}
+use Rattle.rules.proofs.Places.{entries-within}
 use Rattle.index.proofs.entry.Statement.{statement}
 use Rattle.index.proofs.entry.Tie as tie
 
-mul-start : tie.Need-mul-start
-mul-start c = search needs
+entries-width-requires : tie.Need-entries-width-requires
+entries-width-requires c κs =
+    let s = c .before .before in
+    omega (arith, entries-within (s .args .x .form) (s .args .place) (s .args .x .entries) (s .pre .1))
 
-add-start : tie.Need-add-start
-add-start c = search needs
+add-entry-at : tie.Need-add-entry-at
+add-entry-at c =
+    let e = c .before in
+    let s = e .before .before .before in
+    omega (arith, e .entries-width .ensures, entries-within (s .args .x .form) (s .args .place) (s .args .x .entries) (s .pre .1))
 
-get-u64-requires : tie.Need-get-u64-requires
-get-u64-requires c κs = search needs
-
-add-get-u64 : tie.Need-add-get-u64
-add-get-u64 c = search needs
-
-get-u64-requires-2 : tie.Need-get-u64-requires-2
-get-u64-requires-2 c κs = search needs
-
-add-get-u32 : tie.Need-add-get-u32
-add-get-u32 c = search needs
-
-get-u32-requires : tie.Need-get-u32-requires
-get-u32-requires c κs = search needs
+entry-at-requires : tie.Need-entry-at-requires
+entry-at-requires c κs =
+    let e = c .before in
+    let s = e .before .before .before in
+    omega (arith, e .entries-width .ensures, entries-within (s .args .x .form) (s .args .place) (s .args .x .entries) (s .pre .1))
 
 returns : tie.Need-returns
-returns c = ((cc), search needs)
+returns c = c .entry-at .ensures ∙ rw (c .before .before .entries-width .ensures)
 
 pub entry-spec : {M : Type 1} → statement M
-entry-spec =
-    tie.close
-    (tie.spec
-    mul-start
-    add-start
-    get-u64-requires
-    add-get-u64
-    get-u64-requires-2
-    add-get-u32
-    get-u32-requires
-    returns)
+entry-spec = tie.close (tie.spec entries-width-requires add-entry-at entry-at-requires returns)

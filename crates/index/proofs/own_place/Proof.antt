@@ -1,3 +1,4 @@
+-- The page stands nowhere ahead of the place: not where the blocks were passed, and not where it was compared since.
 use mathlib.Core.Path.{_≡_}
 use Prim.Native.Nat.{ℕ, _-_, _≤_, _<_}
 use native.Mathlib.Omega.{arith}
@@ -30,7 +31,9 @@ cast-if1 : tie.Need-cast-if1 Inv-loop μ-loop
 cast-if1 c = omega (arith, c .before .before .before .before .shared-slice-known .given (c .before .before .loop .place))
 
 returns : tie.Need-returns Inv-loop μ-loop
-returns c = (own-hit _ _ (c .before .before .before .before .before .before .pre) _ _ (c .before .before .loop-test .taken) (c .before .before .before .loop .inv .1) (c .if1 .taken), omega arith)
+returns c =
+    let l = c .before .before .before in
+    (own-hit _ _ (l .before .before .before .pre) _ _ (c .before .before .loop-test .taken) (l .loop .inv .1) (c .if1 .taken), omega arith)
 
 add-place : tie.Need-add-place Inv-loop μ-loop
 add-place c = omega arith

@@ -1,8 +1,7 @@
-use mathlib.Core.Path.{_≡_}
+-- Each block that is passed is without the page.
 use Prim.Native.Nat.{_+_, _-_, _≤_}
 use native.Mathlib.Omega.{arith}
-use borrow.Author.Needs.{needs}
-use Rattle.index.specs.Without.{Without}
+use Rattle.index.specs.Places.{Without}
 use Rattle.index.proofs.Search.{without-both}
 use Rattle.index.proofs.without.Statement.{statement}
 use Rattle.index.proofs.without.Tie as tie
@@ -38,7 +37,10 @@ loop-less : tie.Need-loop-less Inv-loop μ-loop
 loop-less c = omega arith
 
 loop-again : tie.Need-loop-again Inv-loop μ-loop
-loop-again c = (omega arith, without-both (c .before .before .before .before .before .before .args .pages .now) (c .before .before .before .before .before .before .args .page) 0 (c .before .before .before .loop .at) (c .before .before .before .loop .at + 16) (c .before .before .before .loop .inv .1) (c .before .any-of-sixteen .ensures (c .if2 .left)))
+loop-again c =
+    let l = c .before .before .before in
+    let a = l .before .before .before .args in
+    (omega arith, without-both (a .pages .now) (a .page) 0 (l .loop .at) (l .loop .at + 16) (l .loop .inv .1) (c .before .any-of-sixteen .ensures (c .if2 .left)))
 
 returns-3 : tie.Need-returns-3 Inv-loop μ-loop
 returns-3 c = c .before .loop .inv

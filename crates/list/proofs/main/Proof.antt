@@ -1,3 +1,4 @@
+-- The text is as long as the answer, which is at most the buffer.
 use mathlib.Core.Path.{sym}
 use lib.Seq.{length-take-le}
 use borrow.Author.Needs.{needs}

@@ -1,3 +1,4 @@
+-- Each turn takes one digit off what is left.
 use Rattle.listing.proofs.Digits.{DigitsCounted, count-start, count-turn, count-end}
 use borrow.Author.Needs.{needs}
 use Rattle.listing.proofs.decimal_length.Statement.{statement}

@@ -1,12 +1,11 @@
+-- The rows come one behind the other, and what passes all of them is written.
 use mathlib.Core.Path.{sym, _∙_}
-use Rattle.listing.proofs.Passing.{list-passed, setting-passed}
+use native.Mathlib.Omega.{arith}
+use Rattle.listing.proofs.Passing.{list-over, list-fault, list-past}
 use Rattle.listing.proofs.Text.{list-refused, list-lines}
 use borrow.Author.Needs.{needs}
 use Rattle.listing.proofs.list.Statement.{statement}
 use Rattle.listing.proofs.list.Tie as tie
-
-list-rows-requires : tie.Need-list-rows-requires
-list-rows-requires c κs = search needs
 
 list-refused-requires : tie.Need-list-refused-requires
 list-refused-requires c κs = search needs
@@ -15,29 +14,69 @@ same-length : tie.Need-same-length
 same-length c = search needs
 
 returns : tie.Need-returns
-returns c = (c .before .before .list-refused .ensures .0 ∙ list-refused _ _ (c .before .before .before .before .before .list-rows .ensures) (c .before .before .before .before .if1 .taken), search needs)
+returns c = (c .before .before .list-refused .ensures .0 ∙ list-refused _ _ (list-over _ (c .before .before .before .before .if1 .taken)) (λ z. omega arith), search needs)
 
-setting-requires : tie.Need-setting-requires
-setting-requires c κs = list-passed _ (sym (c .before .list-rows .ensures) ∙ c .if1 .left) .sound
+judge-requires : tie.Need-judge-requires
+judge-requires c κs = search needs
 
-list-passed-requires : tie.Need-list-passed-requires
-list-passed-requires c κs = setting-passed (sym (c .before .before .before .list-rows .ensures) ∙ c .before .before .if1 .left) (c .before .setting .ensures)
+list-refused-requires-2 : tie.Need-list-refused-requires-2
+list-refused-requires-2 c κs = search needs
 
 same-length-2 : tie.Need-same-length-2
 same-length-2 c = search needs
 
 returns-2 : tie.Need-returns-2
-returns-2 c = (c .before .before .list-passed .ensures .0 ∙ list-lines _ _ (c .before .before .before .before .before .before .list-rows .ensures) (c .before .before .before .before .before .if1 .left) (setting-passed (sym (c .before .before .before .before .before .before .list-rows .ensures) ∙ c .before .before .before .before .before .if1 .left) (c .before .before .before .before .setting .ensures)), search needs)
+returns-2 c =
+    let refused = c .before .before .before .before .if2 .taken in
+    (c .before .before .list-refused2 .ensures .0 ∙ list-refused _ _ (list-fault _ (c .before .before .before .before .before .before .before .if1 .left) (c .before .before .before .before .before .before .judge .ensures .0) refused) refused, search needs)
+
+judge-records-requires : tie.Need-judge-records-requires
+judge-records-requires c κs = c .before .before .before .judge .ensures .1 (c .before .if2 .left)
+
+list-refused-requires-3 : tie.Need-list-refused-requires-3
+list-refused-requires-3 c κs = search needs
+
+same-length-3 : tie.Need-same-length-3
+same-length-3 c = search needs
+
+returns-3 : tie.Need-returns-3
+returns-3 c =
+    let refused = c .before .before .before .before .if3 .taken in
+    let whole = c .before .before .before .before .before .before .before .before .before .before .judge .ensures in
+    let zero = c .before .before .before .before .before .before .before .before .if2 .left in
+    (c .before .before .list-refused3 .ensures .0 ∙ list-refused _ _ (list-past _ (c .before .before .before .before .before .before .before .before .before .before .before .if1 .left) (whole .0) zero (whole .1 zero) (c .before .before .before .before .before .before .judge-records .ensures .0)) refused, search needs)
+
+list-passed-requires : tie.Need-list-passed-requires
+list-passed-requires c κs =
+    let records = c .before .before .before .judge-records .ensures in
+    let zero = c .before .if3 .left in
+    (record { sound = c .before .before .before .before .before .before .before .judge .ensures .1 (c .before .before .before .before .before .if2 .left); clear = sym (records .0) ∙ zero }, records .1 zero)
+
+same-length-4 : tie.Need-same-length-4
+same-length-4 c = search needs
+
+returns-4 : tie.Need-returns-4
+returns-4 c =
+    let whole = c .before .before .before .before .before .before .before .before .before .before .judge .ensures in
+    let zero = c .before .before .before .before .before .before .before .before .if2 .left in
+    let sound = whole .1 zero in
+    (c .before .before .list-passed .ensures .0 ∙ list-lines _ _ (list-past _ (c .before .before .before .before .before .before .before .before .before .before .before .if1 .left) (whole .0) zero sound (c .before .before .before .before .before .before .judge-records .ensures .0)) (c .before .before .before .before .if3 .left) (sound .setting), search needs)
 
 pub list-spec : {M : Type 1} → statement M
 list-spec =
     tie.close
     (tie.spec
-    list-rows-requires
     list-refused-requires
     same-length
     returns
-    setting-requires
-    list-passed-requires
+    judge-requires
+    list-refused-requires-2
     same-length-2
-    returns-2)
+    returns-2
+    judge-records-requires
+    list-refused-requires-3
+    same-length-3
+    returns-3
+    list-passed-requires
+    same-length-4
+    returns-4)

@@ -1,3 +1,4 @@
+-- The two pieces are the lines, and they are written whole or not at all.
 use mathlib.Core.List.{_++_}
 use Rattle.rules.specs.Listing.{settingLine, recordLines}
 use Rattle.listing.proofs.Lines.{written-then}
@@ -9,14 +10,15 @@ use Rattle.listing.proofs.list_passed.Tie as tie
 setting-length-requires : tie.Need-setting-length-requires
 setting-length-requires c κs = search needs
 
-records-length-requires : tie.Need-records-length-requires
-records-length-requires c κs = search needs
-
 add-total : tie.Need-add-total
 add-total c = search needs
 
 returns : tie.Need-returns
-returns c = (fitted-not _ (settingLine (c .before .before .before .before .before .args .s) ++ recordLines (c .before .before .before .before .before .args .history .now) (c .before .before .before .before .before .args .s) 1 (c .before .before .before .before .before .args .s .count)) (lines-long _ _ (c .before .before .setting-length .ensures .0) (c .before .records-length .ensures .0)) (c .if1 .taken), search needs)
+returns c =
+    let begin = c .before .before .before .before in
+    let a = begin .args in
+    let lines = settingLine (a .s) ++ recordLines (a .history .now) (a .s) 1 (a .s .count) in
+    (fitted-not _ lines (lines-long _ _ (c .before .setting-length .ensures .0) (begin .pre .1 .all)) (c .if1 .taken), search needs)
 
 put-setting-line-requires : tie.Need-put-setting-line-requires
 put-setting-line-requires c κs = search needs
@@ -28,14 +30,15 @@ same-length : tie.Need-same-length
 same-length c = search needs
 
 returns-2 : tie.Need-returns-2
-returns-2 c = (fitted-whole _ _ (lines-long _ _ (c .before .before .before .before .before .before .before .before .before .before .setting-length .ensures .0) (c .before .before .before .before .before .before .before .before .before .records-length .ensures .0)) (c .before .before .before .before .before .before .before .before .if1 .left) (written-then (c .before .before .before .before .before .before .put-setting-line .ensures) (c .before .before .put-record-lines .ensures) (search needs)), search needs)
+returns-2 c =
+    let long = lines-long _ _ (c .before .before .before .before .before .before .before .before .before .setting-length .ensures .0) (c .before .before .before .before .before .before .before .before .before .before .before .before .pre .1 .all) in
+    (fitted-whole _ _ long (c .before .before .before .before .before .before .before .before .if1 .left) (written-then (c .before .before .before .before .before .before .put-setting-line .ensures) (c .before .before .put-record-lines .ensures) (search needs)), search needs)
 
 pub list-passed-spec : {M : Type 1} → statement M
 list-passed-spec =
     tie.close
     (tie.spec
     setting-length-requires
-    records-length-requires
     add-total
     returns
     put-setting-line-requires

@@ -1,3 +1,4 @@
+-- The word, the number and the newline are the refusal, and it is written whole or not at all.
 use mathlib.Core.List.{_++_}
 use Rattle.rules.specs.Listing.{decimal, newline, refusedWord}
 use Rattle.listing.proofs.Lines.{written-run, written-then}

@@ -1,3 +1,4 @@
+-- The digits so far stand behind those that are left, and the last turn lays the first.
 use mathlib.Core.Path.{ap}
 use Prim.Native.Nat.{_+_}
 use lib.ListN.{length-set}

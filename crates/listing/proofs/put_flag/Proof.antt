@@ -1,3 +1,4 @@
+-- Each flag has its word.
 use mathlib.Core.Path.{ap}
 use mathlib.Core.Bool.{Bool}
 use lib.ListN.{length}

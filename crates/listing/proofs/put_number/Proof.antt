@@ -1,3 +1,4 @@
+-- The number is laid directly behind the word.
 use Rattle.listing.proofs.Lines.{written-run, written-then}
 use borrow.Author.Needs.{needs}
 use Rattle.listing.proofs.put_number.Statement.{statement}

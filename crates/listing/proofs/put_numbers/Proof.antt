@@ -1,3 +1,4 @@
+-- The second number is laid directly behind the space.
 use lib.ListN.{length-append}
 use native.Mathlib.Omega.{arith}
 use Rattle.listing.proofs.Lines.{written-more}

@@ -1,32 +1,45 @@
+-- What is written so far are the lines of the records so far, and every record passes.
+use mathlib.Core.Path.{_∙_}
 use Prim.Native.Nat.{_-_}
-use Rattle.listing.proofs.Text.{LinesWritten, written-start, written-length, written-room, written-turn, written-end, left-clear, left-shown}
+use native.Mathlib.Omega.{arith}
+use Rattle.listing.proofs.Passing.{record-shown}
+use Rattle.listing.proofs.Text.{LinesWritten, written-start, written-length, written-clear, written-room, written-turn, written-end}
 use borrow.Author.Needs.{needs}
 use Rattle.listing.proofs.put_record_lines.Statement.{statement}
 use Rattle.listing.proofs.put_record_lines.Tie as tie
 
 abbrev Inv-loop : tie.InvT-loop
-Inv-loop out₀ at history s next₀ k₀ out next k = LinesWritten history s out₀ at k out next
+Inv-loop out₀ at history s form next₀ k₀ out next k = LinesWritten history s out₀ at k out next
 
 abbrev μ-loop : tie.MeasureT-loop
-μ-loop out₀ at history s next₀ k₀ out next k = s .count - k
+μ-loop out₀ at history s form next₀ k₀ out next k = s .count - k
 
 loop-holds : tie.Need-loop-holds Inv-loop μ-loop
-loop-holds c = written-start _ _ _ _ (c .before .before .pre)
+loop-holds c = written-start _ _ _ _ (c .before .before .before .pre)
 
 add-k : tie.Need-add-k Inv-loop μ-loop
 add-k c = search needs
 
-record-of-requires : tie.Need-record-of-requires Inv-loop μ-loop
-record-of-requires c κs = (c .before .before .before .before .before .pre .1 .sound, search needs, left-clear (c .before .before .loop .inv .left) (c .if1 .taken))
+judge-requires : tie.Need-judge-requires Inv-loop μ-loop
+judge-requires c κs = (c .before .before .before .before .before .before .pre .1 .sound, search needs)
 
 put-record-line-requires : tie.Need-put-record-line-requires Inv-loop μ-loop
-put-record-line-requires c κs = (written-room (c .before .before .before .before .loop .inv) (c .before .before .if1 .taken) (c .before .record-of .ensures .0), left-shown (c .before .before .before .before .loop .inv .left) (c .before .before .if1 .taken) (c .before .record-of .ensures .0))
+put-record-line-requires c κs =
+    let lines = c .before .before .before .before .loop .inv in
+    let more = c .before .before .if1 .taken in
+    let clear = written-clear lines more in
+    let standing = c .before .judge .ensures .1 (c .before .judge .ensures .0 ∙ clear) in
+    (written-room lines more (standing .found), record-shown _ _ _ (omega arith) clear standing)
 
 loop-less : tie.Need-loop-less Inv-loop μ-loop
 loop-less c = search needs
 
 loop-again : tie.Need-loop-again Inv-loop μ-loop
-loop-again c = written-turn (c .before .before .before .before .before .before .before .loop .inv) (c .before .before .before .before .before .if1 .taken) (c .before .before .before .before .record-of .ensures .0) (c .before .before .put-record-line .ensures)
+loop-again c =
+    let lines = c .before .before .before .before .before .before .before .loop .inv in
+    let more = c .before .before .before .before .before .if1 .taken in
+    let standing = c .before .before .before .before .judge .ensures .1 (c .before .before .before .before .judge .ensures .0 ∙ written-clear lines more) in
+    written-turn lines more (standing .found) (c .before .before .put-record-line .ensures)
 
 same-length : tie.Need-same-length Inv-loop μ-loop
 same-length c = written-length (c .before .before .loop .inv)
@@ -42,7 +55,7 @@ put-record-lines-spec =
     μ-loop
     loop-holds
     add-k
-    record-of-requires
+    judge-requires
     put-record-line-requires
     loop-less
     loop-again

@@ -1,3 +1,4 @@
+-- Six pieces, one behind the other, are the line.
 use native.Mathlib.Omega.{arith}
 use Rattle.listing.proofs.Lines.{setting-long, setting-written}
 use borrow.Author.Needs.{needs}
@@ -47,7 +48,10 @@ same-length : tie.Need-same-length
 same-length c = search needs
 
 returns : tie.Need-returns
-returns c = setting-written _ (search needs) (c .before .before .before .before .before .before .before .before .before .before .before .before .before .before .before .before .before .before .before .before .before .before .before .before .before .before .before .put-number .ensures) (c .before .before .before .before .before .before .before .before .before .before .before .before .before .before .before .before .before .before .before .before .before .before .put-number2 .ensures) (c .before .before .before .before .before .before .before .before .before .before .before .before .before .before .before .before .before .put-number3 .ensures) (c .before .before .before .before .before .before .before .before .before .before .before .before .put-flag .ensures) (c .before .before .before .before .before .before .before .put-flag2 .ensures) (c .before .before .put-run .ensures)
+returns c =
+    let lock = c .before .before .before .before .before .before .before .before .before .before .before .before in
+    let page = lock .before .before .before .before .before .before .before .before .before .before .before .before .before .before .before in
+    setting-written _ (search needs) (page .put-number .ensures) (c .before .before .before .before .before .before .before .before .before .before .before .before .before .before .before .before .before .before .before .before .before .before .put-number2 .ensures) (c .before .before .before .before .before .before .before .before .before .before .before .before .before .before .before .before .before .put-number3 .ensures) (lock .put-flag .ensures) (c .before .before .before .before .before .before .before .put-flag2 .ensures) (c .before .before .put-run .ensures)
 
 pub put-setting-line-spec : {M : Type 1} → statement M
 put-setting-line-spec =

@@ -1,3 +1,4 @@
+-- The words are as long as they are counted, and the numbers as their function says.
 use native.Mathlib.Omega.{arith}
 use Rattle.listing.proofs.Lines.{record-long}
 use borrow.Author.Needs.{needs}
@@ -32,7 +33,7 @@ add-result-5 : tie.Need-add-result-5
 add-result-5 c = search needs
 
 returns : tie.Need-returns
-returns c = (λ h s. omega (arith, record-long s), omega arith)
+returns c = (λ h f s. omega (arith, record-long s), omega arith)
 
 pub record-length-spec : {M : Type 1} → statement M
 record-length-spec =

@@ -1,3 +1,4 @@
+-- The words are as long as they are counted, and the numbers and flags as their functions say.
 use native.Mathlib.Omega.{arith}
 use Rattle.listing.proofs.Lines.{setting-long}
 use borrow.Author.Needs.{needs}

@@ -1,3 +1,4 @@
+-- Two bytes, the low one first.
 use Prim.Native.Nat.{_+_, _≤_}
 use native.Mathlib.Omega.{arith}
 use lib.ListN.{length}

@@ -1,3 +1,4 @@
+-- A number is made of its two halves.
 use native.Mathlib.Omega.{arith}
 use borrow.Author.Needs.{needs}
 use Rattle.rules.proofs.Bytes.{number-add}

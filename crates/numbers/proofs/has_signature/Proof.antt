@@ -1,3 +1,4 @@
+-- Four bytes are compared one by one.
 use native.Mathlib.Omega.{arith}
 use borrow.Author.Needs.{needs}
 use Rattle.numbers.proofs.Signature.{four-same}

@@ -1,3 +1,4 @@
+-- A number is put by its two halves.
 use borrow.Author.Needs.{needs}
 use Rattle.rules.proofs.Bytes.{put-twice}
 use Rattle.numbers.proofs.put_u64.Statement.{statement}

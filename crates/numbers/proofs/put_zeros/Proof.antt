@@ -1,3 +1,4 @@
+-- After k turns k zeros are laid.
 use mathlib.Core.Path.{sym}
 use Prim.Native.Nat.{_-_}
 use native.Mathlib.Omega.{arith}

@@ -1,3 +1,4 @@
+-- Both tests are the row's.
 use mathlib.Core.Path.{ap}
 use mathlib.Core.Bool.{Bool, not, _&&_}
 use lib.Dec.{leb}

@@ -1,3 +1,4 @@
+-- Both tests are the row's.
 use mathlib.Core.Path.{refl}
 use Rattle.rules.specs.Rows.{notNewest}
 use Rattle.opening.proofs.not_newest.Statement.{statement}

@@ -1,3 +1,4 @@
+-- A history that is not locked is left as it is.
 use Rattle.opening.proofs.Locking.{unlocked, unlock-stores}
 use borrow.Author.Needs.{needs}
 use Rattle.opening.proofs.unlock.Statement.{statement}

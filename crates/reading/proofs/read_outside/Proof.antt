@@ -1,5 +1,5 @@
+-- A difference is compared where the sum could wrap.
 use Rattle.reading.proofs.Steps.{outside-far, outside-near}
-use borrow.Author.Needs.{needs}
 use Rattle.reading.proofs.read_outside.Statement.{statement}
 use Rattle.reading.proofs.read_outside.Tie as tie
 

@@ -1,7 +1,9 @@
+-- One part after the other: where it lies, its fields, its entries, its texts.
 use mathlib.Core.Path.{sym, _∙_}
 use native.Mathlib.Omega.{arith}
 use borrow.Author.Tests.{not-true, not-false}
-use Rattle.records.proofs.Fields.{LiesFacts, lies-facts, fields-logical, wrong-lies, wrong-fields, wrong-entries, wrong-texts}
+use Rattle.rules.proofs.Places.{end-behind}
+use Rattle.records.proofs.Fields.{lies-facts, fields-logical, wrong-lies, wrong-fields, wrong-entries, wrong-texts}
 use borrow.Author.Needs.{needs}
 use Rattle.records.proofs.record_wrong.Statement.{statement}
 use Rattle.records.proofs.record_wrong.Tie as tie
@@ -20,26 +22,26 @@ returns-2 c = wrong-fields _ _ _ _ (sym (c .before .before .before .record-lies 
 
 entries-right-requires : tie.Need-entries-right-requires
 entries-right-requires c κs =
+    let begin = c .before .before .before .before .before in
+    let a = begin .args in
     let l = lies-facts _ _ (sym (c .before .before .before .record-lies .ensures) ∙ not-false _ (c .before .before .if1 .left)) in
-    let f = fields-logical _ _ _ _ (sym (c .before .record-fields .ensures) ∙ not-false _ (c .if2 .left)) in
-    let w = c .before .before .before .before .before .pre .0 in
-    omega arith
+    let g = fields-logical _ _ _ _ (sym (c .before .record-fields .ensures) ∙ not-false _ (c .if2 .left)) in
+    let w = begin .pre .0 in
+    (w .paged, w .allowed, omega (arith, l .ends, l .sized, w .inside, end-behind (a .s .form) (a .r .address) (a .r .size)), g .1)
 
 returns-3 : tie.Need-returns-3
-returns-3 c =
-    wrong-entries _ _ _ _ (sym (c .before .before .before .before .before .record-lies .ensures) ∙ not-false _ (c .before .before .before .before .if1 .left)) (sym (c .before .before .before .record-fields .ensures) ∙ not-false _ (c .before .before .if2 .left))
-    (sym (c .before .entries-right .ensures) ∙ not-true _ (c .if3 .taken))
+returns-3 c = wrong-entries _ _ _ _ (sym (c .before .before .before .before .before .record-lies .ensures) ∙ not-false _ (c .before .before .before .before .if1 .left)) (sym (c .before .before .before .record-fields .ensures) ∙ not-false _ (c .before .before .if2 .left)) (sym (c .before .entries-right .ensures) ∙ not-true _ (c .if3 .taken))
 
 texts-right-requires : tie.Need-texts-right-requires
 texts-right-requires c κs =
+    let begin = c .before .before .before .before .before .before .before in
+    let a = begin .args in
     let l = lies-facts _ _ (sym (c .before .before .before .before .before .record-lies .ensures) ∙ not-false _ (c .before .before .before .before .if1 .left)) in
-    let w = c .before .before .before .before .before .before .before .pre .0 in
-    omega arith
+    let w = begin .pre .0 in
+    (omega (arith, l .ends, l .sized, w .inside, end-behind (a .s .form) (a .r .address) (a .r .size)), w .short, l .few)
 
 returns-4 : tie.Need-returns-4
-returns-4 c =
-    wrong-texts _ _ _ _ (sym (c .before .before .before .before .before .before .record-lies .ensures) ∙ not-false _ (c .before .before .before .before .before .if1 .left)) (sym (c .before .before .before .before .record-fields .ensures) ∙ not-false _ (c .before .before .before .if2 .left))
-    (sym (c .before .before .entries-right .ensures) ∙ not-false _ (c .before .if3 .left)) (c .texts-right .ensures)
+returns-4 c = wrong-texts _ _ _ _ (sym (c .before .before .before .before .before .before .record-lies .ensures) ∙ not-false _ (c .before .before .before .before .before .if1 .left)) (sym (c .before .before .before .before .record-fields .ensures) ∙ not-false _ (c .before .before .before .if2 .left)) (sym (c .before .before .entries-right .ensures) ∙ not-false _ (c .before .if3 .left)) (c .texts-right .ensures)
 
 pub record-wrong-spec : {M : Type 1} → statement M
 record-wrong-spec =

@@ -1,17 +1,12 @@
+-- Name and comment stand one behind the other.
 use mathlib.Core.Path.{refl}
 use Rattle.records.proofs.Fields.{texts-parts}
 use borrow.Author.Needs.{needs}
 use Rattle.records.proofs.texts_right.Statement.{statement}
 use Rattle.records.proofs.texts_right.Tie as tie
 
-add-name : tie.Need-add-name
-add-name c = search needs
-
-mul-name : tie.Need-mul-name
-mul-name c = search needs
-
-add-name-2 : tie.Need-add-name-2
-add-name-2 c = search needs
+name-at-requires : tie.Need-name-at-requires
+name-at-requires c κs = search needs
 
 add-comment : tie.Need-add-comment
 add-comment c = search needs
@@ -44,15 +39,15 @@ text-right-requires-2 : tie.Need-text-right-requires-2
 text-right-requires-2 c κs = search needs
 
 returns : tie.Need-returns
-returns c = texts-parts _ (c .before .before .before .before .before .before .before .args .r) _ _ _ refl refl refl (c .before .before .text-right .ensures) (c .text-right2 .ensures)
+returns c =
+    let a = c .before .before .before .before .before .before .args in
+    texts-parts (a .form) _ (a .r) _ _ _ (c .before .before .before .before .name-at .ensures) refl refl (c .before .before .text-right .ensures) (c .text-right2 .ensures)
 
 pub texts-right-spec : {M : Type 1} → statement M
 texts-right-spec =
     tie.close
     (tie.spec
-    add-name
-    mul-name
-    add-name-2
+    name-at-requires
     add-comment
     add-end
     sub-text-right

@@ -1,3 +1,4 @@
+-- Only the greatest number means the newest.
 use borrow.Author.Tests.{eq-eqb, ne-eqb}
 use Rattle.rules.specs.Calls.{asked}
 use Rattle.revisions.proofs.asked.Statement.{statement}

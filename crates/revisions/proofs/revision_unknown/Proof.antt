@@ -1,3 +1,4 @@
+-- Both tests are the row's.
 use mathlib.Core.Path.{refl}
 use Rattle.rules.specs.Rows.{revisionUnknown}
 use Rattle.revisions.proofs.revision_unknown.Statement.{statement}

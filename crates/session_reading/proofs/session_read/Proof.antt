@@ -1,53 +1,61 @@
-use mathlib.Core.Path.{sym, _∙_}
+-- Judged once; then the rows and the bytes of the session's view.
 use native.Mathlib.Omega.{arith}
-use Rattle.session_reading.proofs.Steps.{begin-sound, begin-open, session-ends, session-seen, session-owns, begin-clear, read-inside, read-refused, read-done}
+use Rattle.reading.proofs.Seen.{view-seen}
+use Rattle.session_reading.proofs.Steps.{read-refused, begin-refused, rows-behind, read-done}
 use borrow.Author.Needs.{needs}
 use Rattle.session_reading.proofs.session_read.Statement.{statement}
 use Rattle.session_reading.proofs.session_read.Tie as tie
 
-session-read-rows-requires : tie.Need-session-read-rows-requires
-session-read-rows-requires c κs = search needs
+judge-requires : tie.Need-judge-requires
+judge-requires c κs = search needs
 
 returns : tie.Need-returns
-returns c = read-refused (c .before .before .before .before .before .args .t1) _ _ (c .before .before .before .before .before .args .at) _ (c .before .session-read-rows .ensures) (c .if1 .taken)
+returns c =
+    let a = c .before .before .before .before .before .before .args in
+    let refused = c .if1 .taken in
+    read-refused (a .t1) _ _ (a .at) _ (begin-refused (a .t1) _ _ (a .at) (a .out .now) (c .before .before .judge .ensures .0) refused) refused
 
-setting-requires : tie.Need-setting-requires
-setting-requires c κs = begin-sound (c .before .before .before .before .before .args .t1) _ _ (begin-clear (c .before .before .before .before .before .args .t1) _ _ (c .before .before .before .before .before .args .at) _ (sym (c .before .session-read-rows .ensures) ∙ c .if1 .left))
+index-in-requires : tie.Need-index-in-requires
+index-in-requires c κs =
+    let w = c .before .before .judge .ensures .1 (c .if1 .left) .parent in
+    (omega (arith, w .right .below, w .sound .inside, w .sound .short), w .right .few)
 
-record-of-requires : tie.Need-record-of-requires
-record-of-requires c κs =
-    let q = begin-open (c .before .before .before .before .before .before .args .t1) _ _ (c .setting .ensures .setting) (begin-clear (c .before .before .before .before .before .before .args .t1) _ _ (c .before .before .before .before .before .before .args .at) _ (sym (c .before .before .session-read-rows .ensures) ∙ c .before .if1 .left)) in
-    (c .setting .ensures, q .parent, q .rows)
+range-rows-requires : tie.Need-range-rows-requires
+range-rows-requires c κs =
+    let w = c .before .before .before .before .before .before .judge .ensures .1 (c .before .before .before .before .if1 .left) in
+    (view-seen (w .parent) (c .before .before .before .index-in .ensures) _ _ (w .room), omega (arith, w .touched), w .small)
 
-session-view-requires : tie.Need-session-view-requires
-session-view-requires c κs =
-    let q = begin-open (c .before .before .before .before .before .before .before .before .args .t1) _ _ (c .before .before .setting .ensures .setting) (begin-clear (c .before .before .before .before .before .before .before .before .args .t1) _ _ (c .before .before .before .before .before .before .before .before .args .at) _ (sym (c .before .before .before .before .session-read-rows .ensures) ∙ c .before .before .before .if1 .left)) in
-    (c .before .before .setting .ensures .most, c .before .record-of .ensures .1 .few, omega (arith, c .before .record-of .ensures .1 .below, c .before .before .setting .ensures .inside, c .before .before .setting .ensures .short), session-ends (c .before .before .setting .ensures) q, q .touched)
+returns-2 : tie.Need-returns-2
+returns-2 c =
+    let judged = c .before .before .before .before .before .before .before .before .judge .ensures in
+    let zero = c .before .before .before .before .before .before .if1 .left in
+    let a = c .before .before .before .before .before .before .before .before .before .before .before .before .args in
+    read-refused (a .t1) _ _ (a .at) _ (rows-behind (a .t1) _ _ (a .at) (a .out .now) (judged .1 zero) (c .before .before .before .before .before .index-in .ensures) (judged .0) zero (c .before .range-rows .ensures .0)) (c .if2 .taken)
 
 put-view-requires : tie.Need-put-view-requires
 put-view-requires c κs =
-    let q = begin-open (c .before .before .before .before .before .before .before .before .before .before .before .before .args .t1) _ _ (c .before .before .before .before .before .before .setting .ensures .setting) (begin-clear (c .before .before .before .before .before .before .before .before .before .before .before .before .args .t1) _ _ (c .before .before .before .before .before .before .before .before .before .before .before .before .args .at) _ (sym (c .before .before .before .before .before .before .before .before .session-read-rows .ensures) ∙ c .before .before .before .before .before .before .before .if1 .left)) in
-    let e = c .before .before .before .session-view .ensures in (
-      session-seen _ _ (c .before .before .before .before .before .before .before .before .before .before .before .before .args .t1) _ e (c .before .before .before .before .before .before .setting .ensures) q (c .before .before .before .before .before .record-of .ensures .1),
-      omega (arith, session-owns _ (c .before .before .before .before .before .before .before .before .before .before .before .before .args .t1) _ e, q .touched),
-      omega (arith, read-inside (c .before .before .before .before .before .before .before .before .before .before .before .before .args .t1) _ _ (c .before .before .before .before .before .before .before .before .before .before .before .before .args .at) _ (sym (c .before .before .before .before .before .before .before .before .session-read-rows .ensures) ∙ c .before .before .before .before .before .before .before .if1 .left), q .small),
-    )
+    let w = c .before .before .before .before .before .before .before .before .before .before .before .before .judge .ensures .1 (c .before .before .before .before .before .before .before .before .before .before .if1 .left) in
+    (view-seen (w .parent) (c .before .before .before .before .before .before .before .before .before .index-in .ensures) _ _ (w .room), omega (arith, w .touched), omega (arith, c .before .before .before .before .before .range-rows .ensures .1 (c .before .before .before .before .if2 .left), w .small))
 
 same-length : tie.Need-same-length
 same-length c = search needs
 
-returns-2 : tie.Need-returns-2
-returns-2 c = read-done (c .before .before .before .before .before .before .before .before .before .before .before .before .before .before .before .args .t1) _ _ (c .before .before .before .before .before .before .before .before .before .before .before .before .before .before .before .args .at) _ (c .before .before .before .before .before .before .before .before .before .before .before .session-read-rows .ensures) (c .before .before .before .before .before .before .before .before .before .before .if1 .left) (c .before .before .before .before .before .before .before .before .before .setting .ensures .setting) (c .before .before .before .before .before .before .before .before .record-of .ensures .0) (c .before .before .before .before .before .before .session-view .ensures) (c .before .before .put-view .ensures)
+returns-3 : tie.Need-returns-3
+returns-3 c =
+    let judged = c .before .before .before .before .before .before .before .before .before .before .before .before .before .before .before .judge .ensures in
+    let zero = c .before .before .before .before .before .before .before .before .before .before .before .before .before .if1 .left in
+    let a = c .before .before .before .before .before .before .before .before .before .before .before .before .before .before .before .before .before .before .before .args in
+    read-done (a .t1) _ _ (a .at) _ (judged .1 zero) (c .before .before .before .before .before .before .before .before .before .before .before .before .index-in .ensures) (judged .0) zero (c .before .before .before .before .before .before .before .before .range-rows .ensures .0) (c .before .before .before .before .before .before .before .if2 .left) (c .before .before .put-view .ensures)
 
 pub session-read-spec : {M : Type 1} → statement M
 session-read-spec =
     tie.close
     (tie.spec
-    session-read-rows-requires
+    judge-requires
     returns
-    setting-requires
-    record-of-requires
-    session-view-requires
+    index-in-requires
+    range-rows-requires
+    returns-2
     put-view-requires
     same-length
-    returns-2)
+    returns-3)

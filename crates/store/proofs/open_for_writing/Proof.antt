@@ -1,3 +1,4 @@
+-- The session is wrapped, and nothing else changes.
 use borrow.Author.Needs.{needs}
 use Rattle.store.proofs.open_for_writing.Statement.{statement}
 use Rattle.store.proofs.open_for_writing.Tie as tie

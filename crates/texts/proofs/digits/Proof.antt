@@ -1,3 +1,4 @@
+-- What is left of the digits is the rule of what is left.
 use Prim.Native.Nat.{_-_}
 use Rattle.texts.proofs.Text.{DigitsLeft, digits-start, digits-fault, digits-turn, digits-end}
 use borrow.Author.Needs.{needs}

@@ -1,3 +1,4 @@
+-- What is left of the text is the rule of what is left.
 use Prim.Native.Nat.{_-_, _+_}
 use mathlib.Core.Path.{_≡_}
 use lib.ListN.{length}

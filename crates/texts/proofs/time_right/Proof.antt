@@ -1,3 +1,4 @@
+-- Each test is one of the rule, in its order.
 use Rattle.texts.proofs.Text.{time-long, time-parts}
 use borrow.Author.Needs.{needs}
 use Rattle.texts.proofs.time_right.Statement.{statement}

@@ -1,6 +1,7 @@
+-- The bytes below the size are the page's, and those past it zeros.
 use native.Mathlib.Omega.{arith}
-use Rattle.touching.proofs.Copies.{source-less, copied}
 use borrow.Author.Needs.{needs}
+use Rattle.touching.proofs.Copies.{source-less, copied}
 use Rattle.touching.proofs.put_kept.Statement.{statement}
 use Rattle.touching.proofs.put_kept.Tie as tie
 
@@ -11,7 +12,7 @@ keep-of-requires : tie.Need-keep-of-requires
 keep-of-requires c κs = search needs
 
 put-page-requires : tie.Need-put-page-requires
-put-page-requires c κs = (source-less _ (c .before .before .before .before .pre .0) (omega (arith, c .before .keep-of .ensures)), c .before .before .before .before .pre .1)
+put-page-requires c κs = let s = c .before .before .before .before .before in (source-less _ (s .pre .0) (omega (arith, c .before .keep-of .ensures)), s .pre .1)
 
 add-put-zeros : tie.Need-add-put-zeros
 add-put-zeros c = search needs
@@ -26,7 +27,10 @@ same-length : tie.Need-same-length
 same-length c = search needs
 
 returns : tie.Need-returns
-returns c = copied (c .before .before .before .before .before .before .before .before .before .before .before .args .original .now) _ _ (c .before .before .before .before .before .before .before .before .before .before .before .args .address) (c .before .before .before .before .before .before .before .before .before .before .before .args .size) (c .before .before .before .before .before .before .before .before .before .before .before .args .from) (c .before .before .before .before .before .before .before .before .before .before .before .args .n) (c .before .before .before .before .before .before .before .before .keep-of .ensures) (c .before .before .before .before .before .before .before .before .before .before .before .args .to) _ (c .before .before .before .before .before .before .before .before .before .before .before .pre .0 .room) (c .before .before .before .before .before .before .put-page .ensures) (c .before .before .put-zeros .ensures)
+returns c =
+    let s = c .before .before .before .before .before .before .before .before .before .before .before .before in
+    let a = s .args in
+    copied (a .original .now) _ _ (a .p .address) (a .p .size) (a .from) (a .n) (c .before .before .before .before .before .before .before .before .keep-of .ensures) (a .to) _ (s .pre .0 .room) (c .before .before .before .before .before .before .put-page .ensures) (c .before .before .put-zeros .ensures)
 
 pub put-kept-spec : {M : Type 1} → statement M
 put-kept-spec =

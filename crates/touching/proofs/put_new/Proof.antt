@@ -1,8 +1,9 @@
+-- What the write leaves of the copy stands ahead of its run and behind it.
 use mathlib.Core.Path.{_∙_}
 use native.Mathlib.Omega.{arith}
+use borrow.Author.Needs.{needs}
 use Rattle.touching.proofs.Copies.{source-less, source-behind, page-laid}
 use Rattle.touching.proofs.Touches.{over-run, run-long}
-use borrow.Author.Needs.{needs}
 use Rattle.touching.proofs.put_new.Statement.{statement}
 use Rattle.touching.proofs.put_new.Tie as tie
 
@@ -16,7 +17,7 @@ add-behind : tie.Need-add-behind
 add-behind c = search needs
 
 put-kept-requires : tie.Need-put-kept-requires
-put-kept-requires c κs = (source-less _ (c .before .before .before .before .before .before .pre .1) (omega (arith, c .before .before .run-in .ensures .in-page)), omega (arith, c .before .before .before .before .before .before .pre .0 .below, c .before .before .before .before .before .before .pre .0 .short))
+put-kept-requires c κs = let s = c .before .before .before .before .before .before in (source-less _ (s .pre .1) (omega (arith, c .before .before .run-in .ensures .in-page)), omega (arith, s .pre .0 .below, s .pre .0 .short))
 
 add-put-run : tie.Need-add-put-run
 add-put-run c = search needs
@@ -40,13 +41,23 @@ sub-put-kept : tie.Need-sub-put-kept
 sub-put-kept c = search needs
 
 put-kept-requires-2 : tie.Need-put-kept-requires-2
-put-kept-requires-2 c κs = (source-behind (c .before .before .before .before .before .before .before .before .before .before .before .before .before .before .before .before .args .original .now) (c .before .before .before .before .before .before .before .before .before .before .before .before .before .before .before .before .args .address) (c .before .before .before .before .before .before .before .before .before .before .before .before .before .before .before .before .args .size) (c .before .before .before .before .before .before .before .before .before .before .before .before .before .before .before .before .pre .1) _ _ _ (run-long (c .before .before .before .before .before .before .before .before .before .before .before .before .before .before .before .before .args .bytes .now) (c .before .before .before .before .before .before .before .before .before .before .before .before .run-in .ensures)) (c .before .before .before .before .before .before .before .before .before .before .before .before .run-in .ensures .in-page) (c .before .before .before .before .before .before .before .before .before .put-kept .ensures) (c .before .before .before .put-run .ensures), omega (arith, c .before .before .before .before .before .before .before .before .before .before .before .before .before .before .before .before .pre .0 .below, c .before .before .before .before .before .before .before .before .before .before .before .before .before .before .before .before .pre .0 .short, c .before .before .before .before .before .before .before .before .before .before .before .before .before .before .before .before .pre .0 .small, c .before .before .before .before .before .before .before .before .before .before .before .before .run-in .ensures .in-page))
+put-kept-requires-2 c κs =
+    let s = c .before .before .before .before .before .before .before .before .before .before .before .before .before .before .before .before in
+    let a = s .args in
+    let v = s .pre .0 in
+    let r = c .before .before .before .before .before .before .before .before .before .before .before .before .run-in .ensures in
+    (source-behind (a .original .now) (a .p .address) (a .p .size) (s .pre .1) _ _ _ (run-long (a .bytes .now) r) (r .in-page) (c .before .before .before .before .before .before .before .before .before .put-kept .ensures) (c .before .before .before .put-run .ensures), omega (arith, v .below, v .short, v .small, r .in-page))
 
 same-length : tie.Need-same-length
 same-length c = search needs
 
 returns : tie.Need-returns
-returns c = page-laid (c .before .before .before .before .before .before .before .before .before .before .before .before .before .before .before .before .before .before .before .args .original .now) (c .before .before .before .before .before .before .before .before .before .before .before .before .before .before .before .before .before .before .before .args .address) (c .before .before .before .before .before .before .before .before .before .before .before .before .before .before .before .before .before .before .before .args .size) (c .before .before .before .before .before .before .before .before .before .before .before .before .before .before .before .before .before .before .before .pre .1) _ _ _ (run-long (c .before .before .before .before .before .before .before .before .before .before .before .before .before .before .before .before .before .before .before .args .bytes .now) (c .before .before .before .before .before .before .before .before .before .before .before .before .before .before .before .run-in .ensures)) (c .before .before .before .before .before .before .before .before .before .before .before .before .before .before .before .run-in .ensures .in-page) (c .before .before .before .before .before .before .before .before .before .before .before .before .put-kept .ensures) (c .before .before .before .before .before .before .put-run .ensures) (c .before .before .put-kept2 .ensures) ∙ over-run _ (c .before .before .before .before .before .before .before .before .before .before .before .before .before .before .before .before .before .before .before .args .to) (c .before .before .before .before .before .before .before .before .before .before .before .before .before .before .before .before .before .before .before .args .bytes .now) (c .before .before .before .before .before .before .before .before .before .before .before .before .before .before .before .run-in .ensures)
+returns c =
+    let s = c .before .before .before .before .before .before .before .before .before .before .before .before .before .before .before .before .before .before .before in
+    let a = s .args in
+    let r = c .before .before .before .before .before .before .before .before .before .before .before .before .before .before .before .run-in .ensures in
+    page-laid (a .original .now) (a .p .address) (a .p .size) (s .pre .1) _ _ _ (run-long (a .bytes .now) r) (r .in-page) (c .before .before .before .before .before .before .before .before .before .before .before .before .put-kept .ensures) (c .before .before .before .before .before .before .put-run .ensures) (c .before .before .put-kept2 .ensures)
+    ∙ over-run _ (a .to) (a .bytes .now) r
 
 pub put-new-spec : {M : Type 1} → statement M
 put-new-spec =

@@ -1,6 +1,7 @@
+-- The run of the write that falls into the page is laid over it.
 use mathlib.Core.Path.{_∙_}
-use Rattle.touching.proofs.Touches.{over-run}
 use borrow.Author.Needs.{needs}
+use Rattle.touching.proofs.Touches.{over-run}
 use Rattle.touching.proofs.put_own.Statement.{statement}
 use Rattle.touching.proofs.put_own.Tie as tie
 
@@ -26,7 +27,7 @@ same-length : tie.Need-same-length
 same-length c = search needs
 
 returns : tie.Need-returns
-returns c = c .before .before .put-run .ensures ∙ over-run _ (c .before .before .before .before .before .before .before .before .before .args .to) (c .before .before .before .before .before .before .before .before .before .args .bytes .now) (c .before .before .before .before .before .before .run-in .ensures)
+returns c = let a = c .before .before .before .before .before .before .before .before .before .args in c .before .before .put-run .ensures ∙ over-run _ (a .to) (a .bytes .now) (c .before .before .before .before .before .before .run-in .ensures)
 
 pub put-own-spec : {M : Type 1} → statement M
 put-own-spec =

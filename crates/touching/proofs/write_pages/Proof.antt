@@ -1,148 +1,124 @@
-use Prim.Native.Nat.{_-_}
+-- After k pages history and session are those of the rule, and the rule's other pages are still to come.
+use mathlib.Core.Path.{_≡_}
+use mathlib.Core.Bool.{false}
+use Prim.Native.Nat.{_+_, _*_, _-_, _≤_, _<_}
+use native.Mathlib.Nat.{div-add-mod'}
 use native.Mathlib.Omega.{arith}
-use Rattle.rules.specs.Layout.{entriesAt}
-use Rattle.touching.proofs.Copies.{room-new, ready-source}
-use Rattle.touching.proofs.Loop.{Writing, writing-start, writing-one, writing-spot, writing-shares, writing-there, writing-missing, writing-room, writing-over, writing-new, writing-end}
 use borrow.Author.Needs.{needs}
+use lib.ListN.{length}
+use Rattle.rules.specs.Layout.{touchLimit, entriesIn}
+use Rattle.rules.specs.View.{has, ownPages}
+use Rattle.touching.specs.Pages.{Shares}
+use Rattle.touching.proofs.Copies.{room-new, ready-source}
+use Rattle.touching.proofs.Loop.{Writing, writing-start, writing-one, writing-shares, writing-missing, writing-room, writing-over, writing-new, writing-end}
 use Rattle.touching.proofs.write_pages.Statement.{statement}
 use Rattle.touching.proofs.write_pages.Tie as tie
 
 abbrev Inv-loop : tie.InvT-loop
-Inv-loop original history₀ s at entries offset bytes step first m st before t₀ a₀ k₀ history t a k =
-    Writing original s at entries (entriesAt history₀ at entries) offset bytes m first (record { history = history₀; session = st }) (record { history = history; session = t }) a k
+Inv-loop original history₀ s x offset bytes st step m before t₀ a₀ k₀ history t a k =
+    Writing original s x (entriesIn history₀ x) offset bytes m (record { history = history₀; session = st }) (record { history = history; session = t }) a k
 
 abbrev μ-loop : tie.MeasureT-loop
-μ-loop original history₀ s at entries offset bytes step first m st before t₀ a₀ k₀ history t a k = m - k
+μ-loop original history₀ s x offset bytes st step m before t₀ a₀ k₀ history t a k = m - k
+
+full : (c : tie.At-loop Inv-loop μ-loop) → let st = c .before .before .before .before .before .args .t1 in st .n ≤ length (st .pages)
+full c = let w = c .before .before .before .before .before .pre .0 in omega (arith, w .full, w .few)
+
+-- The next page shares a byte with the write.
+shares : (c : tie.In-loop Inv-loop μ-loop)
+    → let a = c .before .before .before .before .before .before .args in
+    Shares (a .s .form .page) (c .before .loop .a) (a .offset) (length (a .bytes .now))
+shares c = writing-shares _ _ _ _ _ _ (c .before .loop .inv) (c .loop-test .taken) (c .before .before .before .before .before .before .pre .1)
+
+-- It is one of the session's own, and there is room;
+there : (c : tie.Then1 Inv-loop μ-loop)
+    → let l = c .before .before .before .before .before .before .loop in
+    let page = c .before .before .before .before .before .before .before .before .before .before .before .args .s .form .page in
+    l .t .end + c .before .own-place .result * page + page ≤ length (l .history)
+there c =
+    let head = c .before .before .before .before .before .before in
+    writing-room _ _ _ _ _ _ (head .loop .inv) (c .before .before .before .before .before .loop-test .taken) (full head) (c .before .own-place .ensures .0) (c .if1 .taken)
+
+-- or it is none of them, and there is room for one more.
+missing : (c : tie.Else1 Inv-loop μ-loop) → let l = c .before .before .before .before .before .before .loop in has (ownPages (l .t)) (l .a) ≡ false
+missing c =
+    let head = c .before .before .before .before .before .before in
+    writing-missing _ _ _ _ _ _ (head .loop .inv) (c .before .before .before .before .before .loop-test .taken) (full head) (c .before .own-place .ensures .0) (c .if1 .left)
+
+fresh : (c : tie.Else1 Inv-loop μ-loop)
+    → let l = c .before .before .before .before .before .before .loop in
+    let page = c .before .before .before .before .before .before .before .before .before .before .before .args .s .form .page in
+    (l .t .n < touchLimit) × (l .t .end + l .t .n * page + page ≤ length (l .history))
+fresh c = room-new (writing-one _ _ _ _ _ _ (c .before .before .before .before .before .before .loop .inv) (c .before .before .before .before .before .loop-test .taken)) (missing c)
+
+pages-in-requires : tie.Need-pages-in-requires Inv-loop μ-loop
+pages-in-requires c κs = (c .before .before .before .pre .0 .sized .least, c .before .before .before .pre .1)
+
+div-a : tie.Need-div-a Inv-loop μ-loop
+div-a c = search needs
+
+mul-a : tie.Need-mul-a Inv-loop μ-loop
+mul-a c = omega (arith, div-add-mod' (c .before .before .before .before .args .offset) (c .before .before .before .before .args .s .form .page), c .before .before .before .before .pre .1)
 
 loop-holds : tie.Need-loop-holds Inv-loop μ-loop
-loop-holds c = writing-start _ _ _ _ _ _ _ _ _ _ (c .before .before .before .pre .0 .1) (c .before .before .before .pre .0 .0)
+loop-holds c = writing-start _ _ _ _ _ _ _ (c .pages-in .ensures) (c .before .before .before .before .pre .0)
 
 add-a : tie.Need-add-a Inv-loop μ-loop
-add-a c =
-    let w = c .before .loop .inv in
-    let h = c .loop-test .taken in
-    let q = writing-spot _ _ _ _ _ _ _ w h in
-    omega (arith, c .before .before .before .before .before .pre .0 .2, c .before .before .before .before .before .pre .0 .0 .most, c .before .before .before .before .before .pre .1)
+add-a c = let v = shares c in omega (arith, v .below, v .short, v .small)
 
 add-k : tie.Need-add-k Inv-loop μ-loop
 add-k c = omega (arith, c .loop-test .taken)
 
-cast-own-place : tie.Need-cast-own-place Inv-loop μ-loop
-cast-own-place c =
-    let w = c .before .before .before .before .loop .inv in
-    let h = c .before .before .before .loop-test .taken in
-    let q = writing-spot _ _ _ _ _ _ _ w h in
-    omega (arith, c .before .before .before .before .before .before .before .before .pre .0 .0 .most, c .before .before .before .before .before .before .before .before .pre .1)
-
 own-place-requires : tie.Need-own-place-requires Inv-loop μ-loop
-own-place-requires c κs = omega (arith, c .before .before .before .before .before .before .before .before .pre .0 .0 .full, c .before .before .before .before .before .before .before .before .pre .0 .0 .few)
+own-place-requires c κs = full (c .before .before .before .before)
 
 mul-to : tie.Need-mul-to Inv-loop μ-loop
-mul-to c =
-    let w = c .before .before .before .before .before .before .loop .inv in
-    let h = c .before .before .before .before .before .loop-test .taken in
-    let y = writing-there _ _ _ _ _ _ _ w h (omega (arith, c .before .before .before .before .before .before .before .before .before .before .pre .0 .0 .full, c .before .before .before .before .before .before .before .before .before .before .pre .0 .0 .few)) (c .before .own-place .ensures .0) (c .if1 .taken) in
-    let r = writing-room _ _ _ _ _ _ _ w h (y .0) (y .1) in
-    omega (arith, w .ready .short)
+mul-to c = omega (arith, there c, c .before .before .before .before .before .before .loop .inv .ready .short)
 
 add-to : tie.Need-add-to Inv-loop μ-loop
-add-to c =
-    let w = c .before .before .before .before .before .before .loop .inv in
-    let h = c .before .before .before .before .before .loop-test .taken in
-    let y = writing-there _ _ _ _ _ _ _ w h (omega (arith, c .before .before .before .before .before .before .before .before .before .before .pre .0 .0 .full, c .before .before .before .before .before .before .before .before .before .before .pre .0 .0 .few)) (c .before .own-place .ensures .0) (c .if1 .taken) in
-    let r = writing-room _ _ _ _ _ _ _ w h (y .0) (y .1) in
-    omega (arith, w .ready .short)
-
-cast-put-own : tie.Need-cast-put-own Inv-loop μ-loop
-cast-put-own c =
-    let w = c .before .before .before .before .before .before .before .loop .inv in
-    let h = c .before .before .before .before .before .before .loop-test .taken in
-    let q = writing-spot _ _ _ _ _ _ _ w h in
-    omega (arith, c .before .before .before .before .before .before .before .before .before .before .before .pre .0 .0 .most, c .before .before .before .before .before .before .before .before .before .before .before .pre .1)
+add-to c = omega (arith, there c, c .before .before .before .before .before .before .loop .inv .ready .short)
 
 put-own-requires : tie.Need-put-own-requires Inv-loop μ-loop
-put-own-requires c κs =
-    let w = c .before .before .before .before .before .before .before .loop .inv in
-    let h = c .before .before .before .before .before .before .loop-test .taken in
-    let v = writing-shares _ _ _ _ _ _ _ w h (c .before .before .before .before .before .before .before .before .before .before .before .pre .1 .1) (c .before .before .before .before .before .before .before .before .before .before .before .pre .1 .2) (c .before .before .before .before .before .before .before .before .before .before .before .pre .1 .3) in
-    let y = writing-there _ _ _ _ _ _ _ w h (omega (arith, c .before .before .before .before .before .before .before .before .before .before .before .pre .0 .0 .full, c .before .before .before .before .before .before .before .before .before .before .before .pre .0 .0 .few)) (c .before .before .own-place .ensures .0) (c .before .if1 .taken) in
-    (v, writing-room _ _ _ _ _ _ _ w h (y .0) (y .1))
+put-own-requires c κs = (shares (c .before .before .before .before .before .before), there (c .before))
 
 loop-less : tie.Need-loop-less Inv-loop μ-loop
 loop-less c = omega (arith, c .before .before .before .before .before .before .before .before .before .loop-test .taken)
 
 loop-again : tie.Need-loop-again Inv-loop μ-loop
-loop-again c =
-    let w = c .before .before .before .before .before .before .before .before .before .before .loop .inv in
-    let h = c .before .before .before .before .before .before .before .before .before .loop-test .taken in
-    let v = writing-shares _ _ _ _ _ _ _ w h (c .before .before .before .before .before .before .before .before .before .before .before .before .before .before .pre .1 .1) (c .before .before .before .before .before .before .before .before .before .before .before .before .before .before .pre .1 .2) (c .before .before .before .before .before .before .before .before .before .before .before .before .before .before .pre .1 .3) in
-    let y = writing-there _ _ _ _ _ _ _ w h (omega (arith, c .before .before .before .before .before .before .before .before .before .before .before .before .before .before .pre .0 .0 .full, c .before .before .before .before .before .before .before .before .before .before .before .before .before .before .pre .0 .0 .few)) (c .before .before .before .before .before .own-place .ensures .0) (c .before .before .before .before .if1 .taken) in
-    writing-over _ _ _ _ _ _ _ w h (c .before .before .before .before .before .before .before .before .before .before .before .before .before .before .pre .0 .2) v (y .0) (y .1) (c .before .before .put-own .ensures)
+loop-again c = writing-over _ _ _ _ _ _ (c .before .before .before .before .before .before .before .before .before .before .loop .inv) (c .before .before .before .before .before .before .before .before .before .loop-test .taken) (c .before .before .before .before .before .before .before .before .before .before .before .before .before .before .before .pre .1) (full (c .before .before .before .before .before .before .before .before .before .before)) (c .before .before .before .before .before .own-place .ensures .0) (c .before .before .before .before .if1 .taken) (c .before .before .put-own .ensures)
 
 mul-to-2 : tie.Need-mul-to-2 Inv-loop μ-loop
-mul-to-2 c =
-    let w = c .before .before .before .before .before .before .loop .inv in
-    let h = c .before .before .before .before .before .loop-test .taken in
-    let y = writing-missing _ _ _ _ _ _ _ w h (omega (arith, c .before .before .before .before .before .before .before .before .before .before .pre .0 .0 .full, c .before .before .before .before .before .before .before .before .before .before .pre .0 .0 .few)) (c .before .own-place .ensures .0) (c .if1 .left) in
-    let r = room-new (writing-one _ _ _ _ _ _ _ w h) y in
-    omega (arith, w .ready .short)
+mul-to-2 c = omega (arith, fresh c, c .before .before .before .before .before .before .loop .inv .ready .short)
 
 add-to-2 : tie.Need-add-to-2 Inv-loop μ-loop
-add-to-2 c =
-    let w = c .before .before .before .before .before .before .loop .inv in
-    let h = c .before .before .before .before .before .loop-test .taken in
-    let y = writing-missing _ _ _ _ _ _ _ w h (omega (arith, c .before .before .before .before .before .before .before .before .before .before .pre .0 .0 .full, c .before .before .before .before .before .before .before .before .before .before .pre .0 .0 .few)) (c .before .own-place .ensures .0) (c .if1 .left) in
-    let r = room-new (writing-one _ _ _ _ _ _ _ w h) y in
-    omega (arith, w .ready .short)
-
-cast-put-new : tie.Need-cast-put-new Inv-loop μ-loop
-cast-put-new c =
-    let w = c .before .before .before .before .before .before .before .loop .inv in
-    let h = c .before .before .before .before .before .before .loop-test .taken in
-    let q = writing-spot _ _ _ _ _ _ _ w h in
-    omega (arith, c .before .before .before .before .before .before .before .before .before .before .before .pre .0 .0 .most, c .before .before .before .before .before .before .before .before .before .before .before .pre .1)
+add-to-2 c = omega (arith, fresh c, c .before .before .before .before .before .before .loop .inv .ready .short)
 
 put-new-requires : tie.Need-put-new-requires Inv-loop μ-loop
-put-new-requires c κs =
-    let w = c .before .before .before .before .before .before .before .loop .inv in
-    let h = c .before .before .before .before .before .before .loop-test .taken in
-    let v = writing-shares _ _ _ _ _ _ _ w h (c .before .before .before .before .before .before .before .before .before .before .before .pre .1 .1) (c .before .before .before .before .before .before .before .before .before .before .before .pre .1 .2) (c .before .before .before .before .before .before .before .before .before .before .before .pre .1 .3) in
-    let y = writing-missing _ _ _ _ _ _ _ w h (omega (arith, c .before .before .before .before .before .before .before .before .before .before .before .pre .0 .0 .full, c .before .before .before .before .before .before .before .before .before .before .before .pre .0 .0 .few)) (c .before .before .own-place .ensures .0) (c .before .if1 .left) in
-    (v, ready-source (writing-one _ _ _ _ _ _ _ w h) y)
+put-new-requires c κs = (shares (c .before .before .before .before .before .before), ready-source (writing-one _ _ _ _ _ _ (c .before .before .before .before .before .before .before .loop .inv) (c .before .before .before .before .before .before .loop-test .taken)) (missing (c .before)))
+
+cast-t : tie.Need-cast-t Inv-loop μ-loop
+cast-t c = let v = shares (c .before .before .before .before .before .before .before .before .before) in omega (arith, v .below, v .short)
 
 mul-t : tie.Need-mul-t Inv-loop μ-loop
 mul-t c = search needs
 
 element-write-t : tie.Need-element-write-t Inv-loop μ-loop
-element-write-t c =
-    let w = c .before .before .before .before .before .before .before .before .before .before .loop .inv in
-    let h = c .before .before .before .before .before .before .before .before .before .loop-test .taken in
-    let y = writing-missing _ _ _ _ _ _ _ w h (omega (arith, c .before .before .before .before .before .before .before .before .before .before .before .before .before .before .pre .0 .0 .full, c .before .before .before .before .before .before .before .before .before .before .before .before .before .before .pre .0 .0 .few)) (c .before .before .before .before .before .own-place .ensures .0) (c .before .before .before .before .if1 .left) in
-    let r = room-new (writing-one _ _ _ _ _ _ _ w h) y in
-    omega (arith, w .ready .full)
+element-write-t c = omega (arith, fresh (c .before .before .before .before), c .before .before .before .before .before .before .before .before .before .before .loop .inv .ready .full)
 
 add-t : tie.Need-add-t Inv-loop μ-loop
-add-t c =
-    let w = c .before .before .before .before .before .before .before .before .before .before .loop .inv in
-    let h = c .before .before .before .before .before .before .before .before .before .loop-test .taken in
-    omega (arith, w .ready .few)
+add-t c = omega (arith, c .before .before .before .before .before .before .before .before .before .before .loop .inv .ready .few)
 
 loop-less-2 : tie.Need-loop-less-2 Inv-loop μ-loop
 loop-less-2 c = omega (arith, c .before .before .before .before .before .before .before .before .before .loop-test .taken)
 
 loop-again-2 : tie.Need-loop-again-2 Inv-loop μ-loop
-loop-again-2 c =
-    let w = c .before .before .before .before .before .before .before .before .before .before .loop .inv in
-    let h = c .before .before .before .before .before .before .before .before .before .loop-test .taken in
-    let v = writing-shares _ _ _ _ _ _ _ w h (c .before .before .before .before .before .before .before .before .before .before .before .before .before .before .pre .1 .1) (c .before .before .before .before .before .before .before .before .before .before .before .before .before .before .pre .1 .2) (c .before .before .before .before .before .before .before .before .before .before .before .before .before .before .pre .1 .3) in
-    let y = writing-missing _ _ _ _ _ _ _ w h (omega (arith, c .before .before .before .before .before .before .before .before .before .before .before .before .before .before .pre .0 .0 .full, c .before .before .before .before .before .before .before .before .before .before .before .before .before .before .pre .0 .0 .few)) (c .before .before .before .before .before .own-place .ensures .0) (c .before .before .before .before .if1 .left) in
-    writing-new _ _ _ _ _ _ _ w h (c .before .before .before .before .before .before .before .before .before .before .before .before .before .before .pre .0 .2) v y (c .before .before .put-new .ensures)
+loop-again-2 c = writing-new _ _ _ _ _ _ (c .before .before .before .before .before .before .before .before .before .before .loop .inv) (c .before .before .before .before .before .before .before .before .before .loop-test .taken) (c .before .before .before .before .before .before .before .before .before .before .before .before .before .before .before .pre .1) (full (c .before .before .before .before .before .before .before .before .before .before)) (c .before .before .before .before .before .own-place .ensures .0) (c .before .before .before .before .if1 .left) (c .before .before .put-new .ensures)
 
 same-length : tie.Need-same-length Inv-loop μ-loop
 same-length c = c .before .loop .inv .long
 
 returns : tie.Need-returns Inv-loop μ-loop
-returns c = writing-end _ _ _ _ _ _ _ (c .before .loop .inv) (c .loop-test .left)
+returns c = writing-end _ _ _ _ _ _ (c .before .loop .inv) (c .loop-test .left)
 
 pub write-pages-spec : {M : Type 1} → statement M
 write-pages-spec =
@@ -150,21 +126,22 @@ write-pages-spec =
     (tie.spec
     Inv-loop
     μ-loop
+    pages-in-requires
+    div-a
+    mul-a
     loop-holds
     add-a
     add-k
-    cast-own-place
     own-place-requires
     mul-to
     add-to
-    cast-put-own
     put-own-requires
     loop-less
     loop-again
     mul-to-2
     add-to-2
-    cast-put-new
     put-new-requires
+    cast-t
     mul-t
     element-write-t
     add-t

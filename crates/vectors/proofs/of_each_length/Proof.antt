@@ -1,3 +1,4 @@
+-- Each turn shows one length.
 use Prim.Native.Nat.{_-_, _≤_}
 use borrow.Author.Needs.{needs}
 use Rattle.vectors.proofs.of_each_length.Statement.{statement}

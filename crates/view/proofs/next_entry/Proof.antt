@@ -1,5 +1,6 @@
-use native.Mathlib.Omega.{arith}
+-- Either the entry is read, or there is none at the place.
 use mathlib.Core.Path.{refl}
+use native.Mathlib.Omega.{arith}
 use borrow.Author.Needs.{needs}
 use Rattle.view.proofs.next_entry.Statement.{statement}
 use Rattle.view.proofs.next_entry.Tie as tie

@@ -1,5 +1,7 @@
-use Rattle.view.proofs.Pages.{page-missing, page-parts}
+-- The search tells whether the index has the page, and the entry found is the page's.
+use mathlib.Core.Path.{_∙_}
 use borrow.Author.Needs.{needs}
+use Rattle.view.proofs.Pages.{entry-room, missing-page, stored-page}
 use Rattle.view.proofs.page_wrong.Statement.{statement}
 use Rattle.view.proofs.page_wrong.Tie as tie
 
@@ -7,13 +9,17 @@ find-requires : tie.Need-find-requires
 find-requires c κs = search needs
 
 returns : tie.Need-returns
-returns c = page-missing _ (c .before .before .before .args .v) (c .before .before .before .args .address) (c .before .find .ensures .0) (search needs)
+returns c = missing-page _ _ (c .before .before .before .before .before .args .v .index) _ (c .before .before .find .ensures .0) (search needs)
 
-sum-wrong-requires : tie.Need-sum-wrong-requires
-sum-wrong-requires c κs = search needs
+entry-requires : tie.Need-entry-requires
+entry-requires c κs = search needs
+
+page-sum-wrong-requires : tie.Need-page-sum-wrong-requires
+page-sum-wrong-requires c κs = let s = c .before .before .before .before .before .before in (entry-room _ (s .args .v) (s .pre) _ (search needs) (c .entry .ensures), s .pre .short)
 
 returns-2 : tie.Need-returns-2
-returns-2 c = page-parts _ (c .before .before .before .before .args .v) (c .before .before .before .before .args .address) (c .before .before .find .ensures .0) (search needs) (c .sum-wrong .ensures)
+returns-2 c = c .page-sum-wrong .ensures ∙ stored-page _ _ (c .before .before .before .before .before .before .before .args .v .index) _ (c .before .before .before .before .find .ensures .0) (search needs) (c .before .entry .ensures)
 
 pub page-wrong-spec : {M : Type 1} → statement M
-page-wrong-spec = tie.close (tie.spec find-requires returns sum-wrong-requires returns-2)
+page-wrong-spec =
+    tie.close (tie.spec find-requires returns entry-requires page-sum-wrong-requires returns-2)

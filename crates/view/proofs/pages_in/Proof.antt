@@ -1,7 +1,8 @@
+-- Bytes there are none, or from the first byte's page to the last's.
 use Prim.Native.Nat.{_+_, _-_}
 use native.Mathlib.Omega.{arith}
 use native.Mathlib.Nat.{div-le-self}
-use Rattle.view.proofs.Pages.{pages-none, pages-some, pages-order}
+use Rattle.rules.proofs.Range.{pages-none, pages-some, pages-order}
 use borrow.Author.Needs.{needs}
 use Rattle.view.proofs.pages_in.Statement.{statement}
 use Rattle.view.proofs.pages_in.Tie as tie

@@ -1,4 +1,4 @@
-use native.Mathlib.Omega.{arith}
+-- The original ends ahead of the offset, behind the run, or in it.
 use Rattle.view.proofs.Shown.{original-past, original-there, original-ends}
 use borrow.Author.Needs.{needs}
 use Rattle.view.proofs.put_original.Statement.{statement}
@@ -11,7 +11,9 @@ same-length : tie.Need-same-length
 same-length c = search needs
 
 returns : tie.Need-returns
-returns c = original-past (c .before .before .before .before .before .before .before .args .original .now) (c .before .before .before .before .before .before .before .args .out .now) (c .before .before .before .before .before .before .before .args .to) (c .before .before .before .before .before .before .before .args .from) (c .before .before .before .before .before .before .before .args .n) (search needs) (c .before .before .put-zeros .ensures)
+returns c =
+    let a = c .before .before .before .before .before .before .before .args in
+    original-past (a .original .now) (a .out .now) (a .to) (a .from) (a .n) (search needs) (c .before .before .put-zeros .ensures)
 
 sub-there : tie.Need-sub-there
 sub-there c = search needs
@@ -35,7 +37,9 @@ same-length-2 : tie.Need-same-length-2
 same-length-2 c = search needs
 
 returns-2 : tie.Need-returns-2
-returns-2 c = original-there (c .before .before .before .before .before .before .before .before .before .args .original .now) (c .before .before .before .before .before .before .before .before .before .args .out .now) (c .before .before .before .before .before .before .before .before .before .args .to) (c .before .before .before .before .before .before .before .before .before .args .from) (c .before .before .before .before .before .before .before .before .before .args .n) (search needs) (c .before .before .put-run .ensures)
+returns-2 c =
+    let a = c .before .before .before .before .before .before .before .before .before .args in
+    original-there (a .original .now) (a .out .now) (a .to) (a .from) (a .n) (search needs) (c .before .before .put-run .ensures)
 
 sub-put-run-2 : tie.Need-sub-put-run-2
 sub-put-run-2 c = search needs
@@ -62,7 +66,9 @@ same-length-3 : tie.Need-same-length-3
 same-length-3 c = search needs
 
 returns-3 : tie.Need-returns-3
-returns-3 c = original-ends (c .before .before .before .before .before .before .before .before .before .before .before .before .before .args .original .now) (c .before .before .before .before .before .before .before .before .before .before .before .before .before .args .out .now) (c .before .before .before .before .before .before .before .before .before .before .before .before .before .args .to) (c .before .before .before .before .before .before .before .before .before .before .before .before .before .args .from) (c .before .before .before .before .before .before .before .before .before .before .before .before .before .args .n) _ (search needs) (search needs) (search needs) (search needs) (c .before .before .before .before .before .before .put-run2 .ensures) (c .before .before .put-zeros2 .ensures)
+returns-3 c =
+    let a = c .before .before .before .before .before .before .before .before .before .before .before .before .before .args in
+    original-ends (a .original .now) (a .out .now) (a .to) (a .from) (a .n) _ (search needs) (search needs) (search needs) (search needs) (c .before .before .before .before .before .before .put-run2 .ensures) (c .before .before .put-zeros2 .ensures)
 
 pub put-original-spec : {M : Type 1} → statement M
 put-original-spec =

@@ -1,5 +1,6 @@
-use Rattle.view.proofs.Overlay.{own-apart, own-uneven, own-laid}
+-- Page and buffer do not meet, or no page can stand there, or the part where they meet is laid.
 use borrow.Author.Needs.{needs}
+use Rattle.view.proofs.Overlay.{own-apart, own-uneven, own-laid}
 use Rattle.view.proofs.put_own.Statement.{statement}
 use Rattle.view.proofs.put_own.Tie as tie
 
@@ -16,13 +17,13 @@ least-requires : tie.Need-least-requires
 least-requires c κs = search needs
 
 returns : tie.Need-returns
-returns c = own-apart _ _ (c .before .before .before .before .before .args .page) (c .before .before .before .before .before .args .address) (c .before .before .before .before .before .args .stored) (c .before .before .before .before .before .args .from) (c .before .before .before .before .before .pre .0) (search needs)
+returns c = let s = c .before .before .before .before .before in own-apart _ _ _ (s .args .address) (s .args .stored) (s .args .from) (s .pre .0) (search needs)
 
 rem-if2 : tie.Need-rem-if2
 rem-if2 c = search needs
 
 returns-2 : tie.Need-returns-2
-returns-2 c = own-uneven _ _ (c .before .before .before .before .before .before .args .page) (c .before .before .before .before .before .before .args .address) (c .before .before .before .before .before .before .args .stored) (c .before .before .before .before .before .before .args .from) (c .before .before .before .before .before .before .pre .0) (c .if2 .taken)
+returns-2 c = let s = c .before .before .before .before .before .before in own-uneven _ _ _ (s .args .address) (s .args .stored) (s .args .from) (s .pre .0) (c .if2 .taken)
 
 sub-put-stored : tie.Need-sub-put-stored
 sub-put-stored c = search needs
@@ -43,7 +44,9 @@ same-length : tie.Need-same-length
 same-length c = search needs
 
 returns-3 : tie.Need-returns-3
-returns-3 c = own-laid _ _ (c .before .before .before .before .before .before .before .before .before .before .args .page) (c .before .before .before .before .before .before .before .before .before .before .args .address) (c .before .before .before .before .before .before .before .before .before .before .args .stored) (c .before .before .before .before .before .before .before .before .before .before .args .from) (c .before .before .before .before .before .before .before .before .before .before .pre .0) (c .before .before .before .before .if2 .left) (c .before .before .before .before .before .before .before .before .before .before .pre .1) (c .before .before .before .before .before .before .before .most .ensures) (c .before .before .before .before .before .before .least .ensures) (search needs) (c .before .before .put-stored .ensures)
+returns-3 c =
+    let s = c .before .before .before .before .before .before .before .before .before .before in
+    own-laid _ _ _ (s .args .address) (s .args .stored) (s .args .from) (s .pre .0) (c .before .before .before .before .if2 .left) (s .pre .1) (c .before .before .before .before .before .before .before .most .ensures) (c .before .before .before .before .before .before .least .ensures) (search needs) (c .before .before .put-stored .ensures)
 
 pub put-own-spec : {M : Type 1} → statement M
 put-own-spec =

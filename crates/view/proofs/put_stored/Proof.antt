@@ -1,3 +1,4 @@
+-- The part is named by its ends.
 use Rattle.view.proofs.Shown.{stored-run}
 use borrow.Author.Needs.{needs}
 use Rattle.view.proofs.put_stored.Statement.{statement}
@@ -22,7 +23,9 @@ same-length : tie.Need-same-length
 same-length c = search needs
 
 returns : tie.Need-returns
-returns c = stored-run (c .before .before .before .before .before .before .before .args .out .now) (c .before .before .before .before .before .before .before .args .history .now) (c .before .before .before .before .before .before .before .args .to) (c .before .before .before .before .before .before .before .args .from) (c .before .before .before .before .before .before .before .args .n) (c .before .before .put-run .ensures)
+returns c =
+    let a = c .before .before .before .before .before .before .before .args in
+    stored-run (a .out .now) (a .history .now) (a .to) (a .from) (a .n) (c .before .before .put-run .ensures)
 
 pub put-stored-spec : {M : Type 1} → statement M
 put-stored-spec =

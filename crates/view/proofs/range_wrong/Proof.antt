@@ -1,8 +1,10 @@
+-- The pages that the range shares a byte with lie one behind the other from the first byte's on.
+use mathlib.Core.Path.{_∙_}
+use native.Mathlib.Nat.{div-add-mod'}
 use native.Mathlib.Omega.{arith}
-use Prim.Native.Nat.{_/_}
-use native.Mathlib.Nat.{div-add-mod', mul-mod-left}
-use Rattle.view.proofs.Pages.{range-room, range-parts}
 use borrow.Author.Needs.{needs}
+use Rattle.rules.proofs.Range.{page-multiple}
+use Rattle.view.proofs.Pages.{pageSize, range-room}
 use Rattle.view.proofs.range_wrong.Statement.{statement}
 use Rattle.view.proofs.range_wrong.Tie as tie
 
@@ -13,13 +15,16 @@ div-pages-wrong : tie.Need-div-pages-wrong
 div-pages-wrong c = search needs
 
 mul-pages-wrong : tie.Need-mul-pages-wrong
-mul-pages-wrong c = omega (arith, div-add-mod' (c .before .before .before .args .at) (c .before .before .before .args .v .page))
+mul-pages-wrong c = omega (arith, div-add-mod' (c .before .before .before .args .at) (pageSize (c .before .before .before .args .v)))
 
 pages-wrong-requires : tie.Need-pages-wrong-requires
-pages-wrong-requires c κs = (c .before .before .before .pre .0, c .before .before .before .pre .1, range-room (c .before .before .before .args .v .page) (c .before .before .before .args .at) (c .before .before .before .args .n) (c .pages-in .ensures) (c .before .before .before .pre .2) (c .before .before .before .pre .0 .least) (c .before .before .before .pre .0 .most), mul-mod-left (c .before .before .before .args .at / c .before .before .before .args .v .page) (c .before .before .before .args .v .page))
+pages-wrong-requires c κs =
+    let s = c .before .before .before in
+    let w = s .pre .0 in
+    (w, s .pre .1, range-room _ (s .args .at) (s .args .n) (c .pages-in .ensures) (s .pre .2) (w .least) (w .most), page-multiple _ (s .args .at))
 
 returns : tie.Need-returns
-returns c = range-parts _ _ (c .before .before .before .before .args .v) _ _ (c .before .pages-in .ensures) (c .pages-wrong .ensures)
+returns c = c .pages-wrong .ensures ∙ rw (c .before .pages-in .ensures)
 
 pub range-wrong-spec : {M : Type 1} → statement M
 range-wrong-spec =

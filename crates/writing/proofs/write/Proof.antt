@@ -1,50 +1,58 @@
-use mathlib.Core.Path.{sym, _∙_}
-use native.Mathlib.Omega.{arith}
-use Rattle.session_reading.proofs.Steps.{begin-sound, begin-open}
-use Rattle.writing.proofs.Steps.{begin-clear, write-near, write-roomy, write-refused, write-done}
+-- Judged once; then the rows of the write, and its pages.
+use Rattle.writing.proofs.Steps.{write-begin, write-behind, write-refused, write-done}
 use borrow.Author.Needs.{needs}
 use Rattle.writing.proofs.write.Statement.{statement}
 use Rattle.writing.proofs.write.Tie as tie
 
-write-rows-requires : tie.Need-write-rows-requires
-write-rows-requires c κs = search needs
+judge-requires : tie.Need-judge-requires
+judge-requires c κs = search needs
 
 same-length : tie.Need-same-length
 same-length c = search needs
 
 returns : tie.Need-returns
-returns c = write-refused (c .before .before .before .before .before .before .args .st) _ _ (c .before .before .before .before .before .before .args .at) _ _ (c .before .write-rows .ensures) (c .if1 .taken)
+returns c =
+    let a = c .before .before .before .before .before .before .before .args in
+    let refused = c .if1 .taken in
+    write-refused (a .st) _ _ (a .at) (a .bytes .now) _ (write-begin (a .st) _ _ (a .at) _ (c .before .before .judge .ensures .0) refused) refused
 
-setting-requires : tie.Need-setting-requires
-setting-requires c κs = begin-sound (c .before .before .before .before .before .before .before .args .st) _ _ (begin-clear (c .before .before .before .before .before .before .before .args .st) _ _ (c .before .before .before .before .before .before .before .args .at) _ (sym (c .before .before .write-rows .ensures) ∙ c .before .if1 .left))
-
-record-of-requires : tie.Need-record-of-requires
-record-of-requires c κs =
-    let q = begin-open (c .before .before .before .before .before .before .before .before .before .args .st) _ _ (c .before .setting .ensures .setting) (begin-clear (c .before .before .before .before .before .before .before .before .before .args .st) _ _ (c .before .before .before .before .before .before .before .before .before .args .at) _ (sym (c .before .before .before .before .write-rows .ensures) ∙ c .before .before .before .if1 .left)) in
-    (c .before .setting .ensures, q .parent, q .rows)
-
-put-written-requires : tie.Need-put-written-requires
-put-written-requires c κs =
-    let z = sym (c .before .before .before .before .before .before .write-rows .ensures) ∙ c .before .before .before .before .before .if1 .left in
-    let q = begin-open (c .before .before .before .before .before .before .before .before .before .before .before .args .st) _ _ (c .before .before .before .setting .ensures .setting) (begin-clear (c .before .before .before .before .before .before .before .before .before .before .before .args .st) _ _ (c .before .before .before .before .before .before .before .before .before .before .before .args .at) _ z) in
-    let y = write-roomy (c .before .before .before .before .before .before .before .before .before .before .before .args .st) _ _ (c .before .before .before .before .before .before .before .before .before .before .before .args .at) _ (c .before .before .before .setting .ensures .setting) (c .before .record-of .ensures .0) z in
-    ((c .before .before .before .setting .ensures, q, c .before .record-of .ensures .1, write-near (c .before .before .before .before .before .before .before .before .before .before .before .args .st) _ _ (c .before .before .before .before .before .before .before .before .before .before .before .args .at) _ z), (y .touches, y .room))
+write-rows-requires : tie.Need-write-rows-requires
+write-rows-requires c κs = c .before .before .before .before .before .judge .ensures .1 (c .before .before .before .if1 .left)
 
 same-length-2 : tie.Need-same-length-2
 same-length-2 c = search needs
 
 returns-2 : tie.Need-returns-2
-returns-2 c = write-done (c .before .before .before .before .before .before .before .before .before .before .before .before .before .before .args .st) _ _ (c .before .before .before .before .before .before .before .before .before .before .before .before .before .before .args .at) _ (c .before .before .before .before .before .before .before .before .before .write-rows .ensures) (c .before .before .before .before .before .before .before .before .if1 .left) (c .before .before .before .before .before .before .setting .ensures .setting) (c .before .before .before .before .record-of .ensures .0) (c .before .before .put-written .ensures)
+returns-2 c =
+    let judged = c .before .before .before .before .before .before .before .judge .ensures in
+    let zero = c .before .before .before .before .before .if1 .left in
+    let a = c .before .before .before .before .before .before .before .before .before .before .before .before .args in
+    write-refused (a .st) _ _ (a .at) (a .bytes .now) _ (write-behind (a .st) _ _ (a .at) _ (judged .0) zero (judged .1 zero) (c .before .write-rows .ensures .0)) (c .if2 .taken)
+
+put-written-requires : tie.Need-put-written-requires
+put-written-requires c κs = c .before .before .write-rows .ensures .1 (c .before .if2 .left)
+
+same-length-3 : tie.Need-same-length-3
+same-length-3 c = search needs
+
+returns-3 : tie.Need-returns-3
+returns-3 c =
+    let judged = c .before .before .before .before .before .before .before .before .before .before .before .judge .ensures in
+    let zero = c .before .before .before .before .before .before .before .before .before .if1 .left in
+    let w = judged .1 zero in
+    let a = c .before .before .before .before .before .before .before .before .before .before .before .before .before .before .before .before .args in
+    write-done (a .st) _ _ (a .at) (a .bytes .now) (write-behind (a .st) _ _ (a .at) _ (judged .0) zero w (c .before .before .before .before .before .write-rows .ensures .0)) (c .before .before .before .before .if2 .left) w (c .before .before .put-written .ensures)
 
 pub write-spec : {M : Type 1} → statement M
 write-spec =
     tie.close
     (tie.spec
-    write-rows-requires
+    judge-requires
     same-length
     returns
-    setting-requires
-    record-of-requires
-    put-written-requires
+    write-rows-requires
     same-length-2
-    returns-2)
+    returns-2
+    put-written-requires
+    same-length-3
+    returns-3)

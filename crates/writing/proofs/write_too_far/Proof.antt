@@ -1,3 +1,4 @@
+-- The limit less the offset leaves room for the bytes.
 use Rattle.writing.proofs.Steps.{far-judged}
 use borrow.Author.Needs.{needs}
 use Rattle.writing.proofs.write_too_far.Statement.{statement}
@@ -7,7 +8,7 @@ sub-result : tie.Need-sub-result
 sub-result c = search needs
 
 returns : tie.Need-returns
-returns c = far-judged (c .args .at) (c .args .n) (c .pre)
+returns c = far-judged _ _ (c .pre)
 
 pub write-too-far-spec : {M : Type 1} → statement M
 write-too-far-spec = tie.close (tie.spec sub-result returns)

@@ -1,5 +1,5 @@
--- `reader::Reader::new` meets its contract: a walk of its MIR, by hand. A `Reader` is made of the slice passed and 0, in the result's local.
--- A `&[u8]` is Copy, so what it owns is had twice: once for the slice at exit, and once inside the result, beside the facts of the place.
+-- `reader::Reader::new` meets its contract: a walk of its MIR, by hand. A `Reader` is made of the slice passed and two zeros, in the result's local.
+-- A `&[u8]` is Copy, so what it owns is had twice: once for the slice at exit, and once inside the result, beside the facts of the numbers.
 -- Assumes nothing.
 use mathlib.Core.Path.{refl}
 use Prim.Native.Nat.{ℕ}
@@ -55,7 +55,7 @@ module _ {M : Type 1} (𝓤 : URA M) (H : Heap 𝓤) (A : Atoms 𝓤) (W : Given
   v = sliceVal (s .ptr) (length (s .now))
 
   abbrev made : Reader
-  made = record { bytes = s; place = 0 }
+  made = record { bytes = s; place = 0; number = 0 }
 
   abbrev at : List Val × Unit {0}
   at = (v ∷ [], tt)
@@ -69,17 +69,17 @@ module _ {M : Type 1} (𝓤 : URA M) (H : Heap 𝓤) (A : Atoms 𝓤) (W : Given
   exits : ent 𝓤 (onEntry 𝓤 H A new.signature (κ, tt) (q, tt) (s, tt) at) (Post (T′.lowered made))
   exits =
       qed W ((‵ (flft κ q) ⊛ ‵ ftrue) ∷ ‵ (owns (ShrSlice (named 0) κ u8 ∷ []) (s, tt) at) ∷ []) ∵
-      suffices ! _ (ends-at 𝓤 H A new.ended stayed (new.clauses 𝓤 H A mem run) W (((κ, tt), (q, tt), tt, (s, tt), at), tt) (T′.lowered made) made (tt, tt) (tt, tt)) $ says ! (refl, refl) $
+      suffices ! _ (ends-at 𝓤 H A new.ended stayed (new.clauses 𝓤 H A mem run) W (((κ, tt), (q, tt), tt, (s, tt), at), tt) (T′.lowered made) made (tt, tt) (tt, tt)) $ says ! (refl, refl, refl) $
       frame ! $ fsplit ! $ use1 W (‵ Own ⊛ ‵ Own) (shr-slice-copy 𝓤 H A W (named 0) κ u8 .twice s (v ∷ [])) $ split ! $ move ! (0 ∷ 2 ∷ []) $ fjoin ! $ frame ! $
-      -- [what the slice owns]: what the fields own together, of it and of the place's facts, is what the struct owns
-      nothing ! $ owned ! u64 (Is u64) (uint-makes 𝓤 H A W w64) 0 _ (refl, lit< tt) $ fjoin ! $ move ! (1 ∷ 0 ∷ []) $ fjoin ! $ by ! (own-shut 𝓤 H A W (T.the-type α) (T′.the-laws α) (s, (0, tt)))
+      -- [what the slice owns]: what the fields own together, of it and of the numbers' facts, is what the struct owns
+      nothing ! $ owned ! u64 (Is u64) (uint-makes 𝓤 H A W w64) 0 _ (refl, lit< tt) $ fjoin ! $ owned ! u64 (Is u64) (uint-makes 𝓤 H A W w64) 0 _ (refl, lit< tt) $ fjoin ! $ move ! (1 ∷ 0 ∷ []) $ fjoin ! $ by ! (own-shut 𝓤 H A W (T.the-type α) (T′.the-laws α) (s, (0, (0, tt))))
 
   module _ (C : Calls 𝓤 H) (Λ : Loops 𝓤 H) where
     walk : Is (ShrSlice (named 0) κ u8) s (v ∷ []) → ent 𝓤 (onEntry 𝓤 H A new.signature (κ, tt) (q, tt) (s, tt) at) (WpFn 𝓤 H C Λ code.function (v ∷ []) Post)
     walk p =
         qed W (raw (onEntry 𝓤 H A new.signature (κ, tt) (q, tt) (s, tt) at) ∷ []) ∵ enter ! C Λ code.function (v ∷ []) _ $
         alloc1 ! (λ l₀. alloc1 ! (λ l₁. alloc0 ! $ params1 ! $ pass1 ! (init ! 0 refl (shr-slice-lawful 𝓤 H A W (named 0) κ u8 .typed s (v ∷ []) p .0)) $ pass0 ! $
-        assigns ! (agg ! (and-then ! (load ! (from ! (stop !)) (look ! 0 refl)) (and-then ! (lit ! tt) (no-more !)))) (from ! (stop !)) (init ! 2 refl (tt, (shr-slice-lawful 𝓤 H A W (named 0) κ u8 .typed s (v ∷ []) p .0 .1, (record { fits = lit< tt }, tt)))) $
+        assigns ! (agg ! (and-then ! (load ! (from ! (stop !)) (look ! 0 refl)) (and-then ! (lit ! tt) (and-then ! (lit ! tt) (no-more !))))) (from ! (stop !)) (init ! 2 refl (tt, (shr-slice-lawful 𝓤 H A W (named 0) κ u8 .typed s (v ∷ []) p .0 .1, (record { fits = lit< tt }, (record { fits = lit< tt }, tt))))) $
         returns ! (look ! 2 refl) $ forget ! 0 refl $ forget ! 2 refl $ move ! (2 ∷ 3 ∷ []) $ free1 ! $ free1 ! $ free0 ! $ by ! exits))
 
 module _ {M : Type 1} (𝓤 : URA M) (H : Heap 𝓤) (A : Atoms 𝓤) (W : Given 𝓤 H A) (mem : Memory → SProp 𝓤) (run : Routine → Fun 𝓤) where

@@ -1,3 +1,4 @@
+-- The session is taken apart and wrapped again.
 use borrow.Author.Needs.{needs}
 use Rattle.store.proofs.Session.commit.Statement.{statement}
 use Rattle.store.proofs.Session.commit.Tie as tie
