@@ -2,7 +2,6 @@
 use mathlib.Core.Path.{_≡_, refl, sym, ap, _∙_}
 use mathlib.Core.List.{List, [], _∷_, _++_}
 use Prim.Native.Nat.{ℕ, suc, _+_, _*_, _-_, _≤_, _<_}
-use native.Mathlib.Nat.{suc-mul, mul-le-mul-right}
 use native.Mathlib.Omega.{arith}
 use lib.ListN.{length, length-append}
 use lib.Seq.{length-take-le}
@@ -40,6 +39,7 @@ use Rattle.rules.specs.declared.Index.{Index}
 use Rattle.rules.specs.declared.State.{State}
 use Rattle.rules.proofs.Bytes.{length-laid, part-laid-below, byte-laid-below, laid-then}
 use Rattle.rules.proofs.Places.{end-behind, entry-least, entries-product}
+use Rattle.rules.proofs.Range.{page-lies}
 use Rattle.rules.proofs.Entries.{entries-laid, length-indexBytes, length-merged, sums-laid}
 use Rattle.layout.specs.Paged.{farthest}
 use Rattle.parts.proofs.Laid.{summed-laid, length-summed}
@@ -51,10 +51,6 @@ use Rattle.records.proofs.Stands.{index-rising}
 use Rattle.records.proofs.Front.{length-front}
 use Rattle.merge.specs.Merge.{Mergeable}
 use Rattle.committing.specs.Stored.{Standing, Committable, textsStored}
-
--- The pages of a session lie one behind the other.
-page-lies : (i n p : ℕ) → i < n → i * p + p ≤ n * p
-page-lies i n p h = rw (← suc-mul) (mul-le-mul-right p h)
 
 -- Pages put in with the same entries give the same index.
 putAll-same : (make other : ℕ → ℕ → Entry) (i : ℕ) (pages : List ℕ) (index : List Entry)

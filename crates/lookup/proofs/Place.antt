@@ -1,12 +1,12 @@
 -- Where a looked-up page lies, as the code finds it.
 use mathlib.Core.Path.{_≡_, refl, sym, _∙_}
-use mathlib.Core.Bool.{Bool, true, false, not, cond, _||_, true≢false}
+use mathlib.Core.Bool.{Bool, true, false, cond}
 use mathlib.Core.List.{List}
-use Prim.Native.Nat.{ℕ, _+_, _-_, _%_, _≤_, _<_, max}
+use Prim.Native.Nat.{ℕ, _+_, _-_, _≤_, _<_, max}
 use native.Mathlib.Omega.{arith}
-use lib.Dec.{leb, eqb}
+use lib.Dec.{eqb}
 use lib.ListN.{length, take, drop}
-use borrow.Author.Tests.{lt-ltb, le-ltb, leb-false, eq-eqb, ne-eqb}
+use borrow.Author.Tests.{lt-ltb, le-ltb, eq-eqb, ne-eqb}
 use Rattle.rules.specs.Bytes.{part}
 use Rattle.rules.specs.Layout.{entriesWidth, entryAt, entriesIn}
 use Rattle.rules.specs.View.{placeOf, logicals}
@@ -22,14 +22,6 @@ use Rattle.rules.proofs.Range.{page-there, page-missing, entry-there}
 use Rattle.records.specs.Sound.{Standing, indexIn}
 use Rattle.records.proofs.Fields.{index-there}
 use Rattle.lookup.specs.Lies.{Lies, lookUpIn, pageAt}
-
-pub outside-clear : (p size at : ℕ) → lookUpOutside p size at ≡ false → at < size
-unfolding lookUpOutside
-outside-clear p size at e = go (leb size at) refl e
-  where
-    go : (b : Bool) → leb size at ≡ b → b || not (eqb (at % p) 0) ≡ false → at < size
-    go true q f = absurd (true≢false f)
-    go false q f = leb-false size at q
 
 -- ---- Rows 10, 20 and 9, and the place
 

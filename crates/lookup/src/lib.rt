@@ -7,7 +7,7 @@ ghost use Prim.Native.Nat.{_+_, _≤_};
 ghost use lib.Dec.{eqb};
 ghost use Rattle.rules.specs.Layout.{pageAllowed, limit};
 ghost use Rattle.rules.specs.Rows.{lookUpOutside};
-ghost use Rattle.rules.specs.Calls.{foundLength, notFound, lookUp};
+ghost use Rattle.rules.specs.Calls.{notFound, lookUp};
 ghost use Rattle.view.specs.Seen.{Seen};
 ghost use Rattle.lookup.specs.Lies.{Lies, lookUpIn, pageAt};
 
@@ -17,16 +17,6 @@ fn look_up_outside(page: u64, size: u64, address: u64) -> bool
     ensures { λ r. ⌜ r ≡ lookUpOutside page size address ⌝ }
 {
     (size <= address) | !numbers::multiple(address, page)
-}
-
-fn found_length(page: u64, size: u64, address: u64) -> u64
-    requires { ⌜ address ≤ size ⌝ }
-    ensures { λ r. ⌜ r ≡ foundLength page size address ⌝ }
-{
-    if size - address < page {
-        return size - address;
-    }
-    page
 }
 
 fn refused(number: u64) -> Found
@@ -51,7 +41,7 @@ fn found_in(original: &[u8], history: &[u8], v: View, size: u64, address: u64) -
     if look_up_outside(page, size, address) {
         return refused(10);
     }
-    let length = found_length(page, size, address);
+    let length = numbers::below(page as usize, size as usize, address as usize) as u64;
     let place = index::find(history, x, address);
     if x.entries <= place {
         if (original.len() as u64) < address + length {

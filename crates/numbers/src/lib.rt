@@ -1,7 +1,7 @@
 // The numbers, signatures and runs of bytes that a history is made of, read from bytes and laid over them.
 ghost use mathlib.Core.Path.{_≡_};
 ghost use mathlib.Core.Bool.{true};
-ghost use Prim.Native.Nat.{_+_, _%_, _^_, _≤_, _<_, min, max};
+ghost use Prim.Native.Nat.{_+_, _-_, _%_, _^_, _≤_, _<_, min, max};
 ghost use lib.Dec.{eqb};
 ghost use lib.ListN.{length, replicate};
 ghost use Rattle.rules.specs.Bytes.{part, numberAt, numberBytes, laid, same};
@@ -212,4 +212,14 @@ pub fn multiple(x: u64, page: u64) -> bool
     ensures { λ r. ⌜ r ≡ eqb (x % page) 0 ⌝ }
 {
     x & (page - 1) == 0
+}
+
+// How many of n bytes from an address on lie below a size.
+pub fn below(n: usize, size: usize, at: usize) -> usize
+    ensures { λ r. ⌜ r ≡ min n (size - at) ⌝ }
+{
+    if size <= at {
+        return 0;
+    }
+    least(n, size - at)
 }

@@ -1,3 +1,2 @@
 pub mod Creation
 pub mod Locking
-pub mod Determined

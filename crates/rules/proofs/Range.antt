@@ -71,6 +71,10 @@ pages-apart p x y h f g l =
     let e : y / p * p ≡ x / p * p + (y / p - x / p) * p = ap (λ (n : ℕ). n * p) (sym d) ∙ add-mul (x / p) (y / p - x / p) p in
     omega arith
 
+-- Page i of n pages that lie one behind the other ends within them.
+pub page-lies : (i n p : ℕ) → i < n → i * p + p ≤ n * p
+page-lies i n p h = rw (← suc-mul) (mul-le-mul-right p h)
+
 -- ---- pages from an address on
 
 pages-append : (p a k j : ℕ) → pagesFrom p a (k + j) ≡ pagesFrom p a k ++ pagesFrom p (a + k * p) j

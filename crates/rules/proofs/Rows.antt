@@ -72,6 +72,12 @@ left-alone (suc n) new old h = refl
 pub refusal {ℓ} : {A : Type ℓ} {n k : ℕ} → n ≡ k → (k ≡ 0 → ⊥) → n ≡ 0 → A
 refusal e f z = absurd (f (sym e ∙ z))
 
+-- ---- Promises
+
+-- Stands for itself: a promise that is one equation with the rules leaves no choice. Two outcomes that it allows are equal.
+pub determined {ℓ} : {A : Type ℓ} {rule one other : A} → one ≡ rule → other ≡ rule → one ≡ other
+determined a b = a ∙ sym b
+
 -- ---- Rows taken together
 
 pub then-assoc : (a b c : ℕ) → (a then b) then c ≡ a then (b then c)

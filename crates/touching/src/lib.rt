@@ -3,7 +3,7 @@ use rules::Index;
 use rules::Setting;
 use rules::State;
 ghost use mathlib.Core.Path.{_≡_};
-ghost use Prim.Native.Nat.{_+_, _-_, _≤_, min};
+ghost use Prim.Native.Nat.{_+_, _≤_};
 ghost use lib.ListN.{length, take};
 ghost use Rattle.rules.specs.Bytes.{laid, tabulate};
 ghost use Rattle.rules.specs.Layout.{limit, entryLimit, touchLimit, entriesWidth, entriesIn};
@@ -42,25 +42,12 @@ fn put_page(history: &mut [u8], original: &[u8], p: Page, to: usize, from: usize
     view::put_original(history, to, original, p.address + from, n);
 }
 
-// How many of n bytes from an address on lie below a size.
-fn keep_of(n: usize, size: usize, address: usize) -> usize
-    ensures { λ r. ⌜ r ≡ min n (size - address) ⌝ }
-{
-    if size <= address {
-        return 0;
-    }
-    if size - address < n {
-        return size - address;
-    }
-    n
-}
-
 // Lays n bytes of the page, from a place in it on: those past the session's size are zero.
 fn put_kept(history: &mut [u8], original: &[u8], p: Page, to: usize, from: usize, n: usize)
     requires { ⌜ (Source (now history) (p .x) to from n) × (p .address + from ≤ farthest) ⌝ }
     ensures { λ _. ⌜ now (history .exit) ≡ laid (now (history .entry)) to (tabulate n (λ j. keptByte (now (original .entry)) (now (history .entry)) (entriesIn (now (history .entry)) (p .x)) (p .address) (p .size) (from + j))) ⌝ }
 {
-    let keep = keep_of(n, p.size, p.address + from);
+    let keep = numbers::below(n, p.size, p.address + from);
     put_page(&mut *history, original, p, to, from, keep);
     numbers::put_zeros(history, to + keep, n - keep);
 }

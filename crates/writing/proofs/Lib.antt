@@ -2,4 +2,3 @@ pub mod Counts
 pub mod Room
 pub mod Steps
 pub mod Pages
-pub mod Determined

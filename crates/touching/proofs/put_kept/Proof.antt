@@ -5,14 +5,14 @@ use Rattle.touching.proofs.Copies.{source-less, copied}
 use Rattle.touching.proofs.put_kept.Statement.{statement}
 use Rattle.touching.proofs.put_kept.Tie as tie
 
-add-keep-of : tie.Need-add-keep-of
-add-keep-of c = search needs
+add-below : tie.Need-add-below
+add-below c = search needs
 
-keep-of-requires : tie.Need-keep-of-requires
-keep-of-requires c κs = search needs
+below-requires : tie.Need-below-requires
+below-requires c κs = search needs
 
 put-page-requires : tie.Need-put-page-requires
-put-page-requires c κs = let s = c .before .before .before .before .before in (source-less _ (s .pre .0) (omega (arith, c .before .keep-of .ensures)), s .pre .1)
+put-page-requires c κs = let s = c .before .before .before .before .before in (source-less _ (s .pre .0) (omega (arith, c .before .below .ensures)), s .pre .1)
 
 add-put-zeros : tie.Need-add-put-zeros
 add-put-zeros c = search needs
@@ -30,14 +30,14 @@ returns : tie.Need-returns
 returns c =
     let s = c .before .before .before .before .before .before .before .before .before .before .before .before in
     let a = s .args in
-    copied (a .original .now) _ _ (a .p .address) (a .p .size) (a .from) (a .n) (c .before .before .before .before .before .before .before .before .keep-of .ensures) (a .to) _ (s .pre .0 .room) (c .before .before .before .before .before .before .put-page .ensures) (c .before .before .put-zeros .ensures)
+    copied (a .original .now) _ _ (a .p .address) (a .p .size) (a .from) (a .n) (c .before .before .before .before .before .before .before .before .below .ensures) (a .to) _ (s .pre .0 .room) (c .before .before .before .before .before .before .put-page .ensures) (c .before .before .put-zeros .ensures)
 
 pub put-kept-spec : {M : Type 1} → statement M
 put-kept-spec =
     tie.close
     (tie.spec
-    add-keep-of
-    keep-of-requires
+    add-below
+    below-requires
     put-page-requires
     add-put-zeros
     sub-put-zeros
