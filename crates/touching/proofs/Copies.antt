@@ -1,7 +1,7 @@
 -- What a first touch copies, and the bytes of a write laid between it.
 use mathlib.Core.Path.{_≡_, sym, ap, _∙_}
 use mathlib.Core.Bool.{true, false}
-use mathlib.Core.List.{List, _∷_, _++_}
+use mathlib.Core.List.{List, [], _∷_, _++_, append-nil}
 use mathlib.Core.Logic.{⊎-elim}
 use Prim.Native.Nat.{ℕ, suc, _+_, _*_, _-_, _%_, _≤_, _<_, min}
 use native.Mathlib.Nat.{zero-add, add-assoc, mul-le-mul-right, suc-mul}
@@ -101,6 +101,13 @@ module _ (o : List ℕ) {h : List ℕ} {x : Index} {to p : ℕ} (a size : ℕ) (
       rw t (byte-laid-below h to ys fits (entryOf index a .physical + j) (omega (arith, w .stored (placeOf a (logicals index)) k))))
       (λ (t : hasPage index a ≡ false). rw t)
       (either (hasPage index a))
+
+  -- A run that covers the page leaves nothing of the copy.
+  pub page-covered : (run : List ℕ) {x1 : List ℕ} → length run ≡ p → x1 ≡ laid h to run → x1 ≡ laid (laid h to (tabulate p (keptByte o h index a size))) (to + 0) run
+  page-covered run q e =
+      let copy : List ℕ = tabulate p (keptByte o h index a size) in
+      let long : length copy ≡ p = length-tabulate p (keptByte o h index a size) in
+      e ∙ sym (rw (append-nil copy, append-nil run) at (laid-middle h to [] copy [] run (long ∙ sym q) (rw (append-nil copy, long) (w .room))))
 
   module _ (skip behind : ℕ) (run : List ℕ) {x1 x2 : List ℕ} (q : skip + length run ≡ behind) (l : behind ≤ p)
       (e1 : x1 ≡ laid h to (tabulate skip (λ j. keptByte o h index a size (0 + j)))) (e2 : x2 ≡ laid x1 (to + skip) run) where

@@ -111,6 +111,22 @@ over-run {p} {a} {offset} {skip} {from} {end} h to bytes w =
     rw (w .ends, w .starts) (between (min (offset + length bytes) (a + p)) (max offset a) offset (omega arith)) in
     rw (d, w .skips, w .starts)
 
+-- The run in a page that the write covers.
+pub whole-run : {p a offset n : ℕ} → offset ≤ a → a - offset + p ≤ n → Within p a offset n 0 (a - offset) (a - offset + p)
+whole-run l m = record {
+  skips = omega arith;
+  starts = omega arith;
+  ends = omega arith;
+  ordered = omega arith;
+  in-bytes = m;
+  in-page = omega arith;
+}
+
+pub whole-long : {p : ℕ} (a offset : ℕ) (bytes : List ℕ) → a - offset + p ≤ length bytes → length (take (a - offset + p - (a - offset)) (drop (a - offset) bytes)) ≡ p
+whole-long {p} a offset bytes m =
+    let e : a - offset + p - (a - offset) ≡ p = omega arith in
+    rw e (length-part bytes (a - offset) p m)
+
 pub run-long : {p a offset skip from end : ℕ} (bytes : List ℕ) → Within p a offset (length bytes) skip from end
     → skip + length (take (end - from) (drop from bytes)) ≡ skip + (end - from)
 run-long {skip = skip} {from = from} {end = end} bytes w = rw (length-part bytes from (end - from) (omega (arith, w .ordered, w .in-bytes)))

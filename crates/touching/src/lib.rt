@@ -85,7 +85,7 @@ fn put_own(history: &mut [u8], to: usize, page: usize, address: usize, offset: u
 }
 
 // Lays a write over the first copy of a page. Only what the write leaves of the copy is stored, so each byte is stored once.
-fn put_new(
+fn put_around(
     history: &mut [u8],
     original: &[u8],
     p: Page,
@@ -111,6 +111,30 @@ fn put_new(
         behind,
         page - behind,
     );
+}
+
+// The same, of any page that the write shares a byte with: one that it covers has nothing of the copy left.
+fn put_new(
+    history: &mut [u8],
+    original: &[u8],
+    p: Page,
+    to: usize,
+    page: usize,
+    offset: usize,
+    bytes: &[u8],
+)
+    requires { ⌜ (Shares page (p .address) offset (length (now bytes))) × (Source (now history) (p .x) to 0 page) ⌝ }
+    ensures { λ _. ⌜ now (history .exit) ≡ overPage (laid (now (history .entry)) to (tabulate page (keptByte (now (original .entry)) (now (history .entry)) (entriesIn (now (history .entry)) (p .x)) (p .address) (p .size)))) to page (p .address) offset (now (bytes .entry)) ⌝ }
+{
+    if offset <= p.address {
+        let from = p.address - offset;
+        let end = from + page;
+        if end <= bytes.len() {
+            numbers::put_run(history, to, &bytes[from..end]);
+            return;
+        }
+    }
+    put_around(history, original, p, to, page, offset, bytes);
 }
 
 // ---- All of a write's pages
