@@ -236,13 +236,13 @@ entries-rise s r next (e ∷ index) h (suc i) (suc k) l m =
 -- ---- the pages of a session
 
 -- The first of the pages that fit, and those behind it.
-record FirstFits (p size a : ℕ) (pages : List ℕ) : Type 0 where
-  alone : has pages a ≡ false
-  multiple : a % p ≡ 0
-  below : a < size
-  rest : pagesFit p size pages ≡ true
+pub record FirstFits (p size a : ℕ) (pages : List ℕ) : Type 0 where
+  pub alone : has pages a ≡ false
+  pub multiple : a % p ≡ 0
+  pub below : a < size
+  pub rest : pagesFit p size pages ≡ true
 
-first-fits : (p size a : ℕ) (pages : List ℕ) → pagesFit p size (a ∷ pages) ≡ true → FirstFits p size a pages
+pub first-fits : (p size a : ℕ) (pages : List ℕ) → pagesFit p size (a ∷ pages) ≡ true → FirstFits p size a pages
 unfolding pagesFit
 first-fits p size a pages h =
     let three = and-eq-true-iff _ _ .0 h in
@@ -349,11 +349,11 @@ has-put e (x ∷ index) a = ⊎-elim
     (order (e .logical) (x .logical))
 
 -- The entry of a page, at the front and behind it.
-entry-front : (e : Entry) (index : List Entry) (a : ℕ) → e .logical ≡ a → entryOf (e ∷ index) a ≡ e
+pub entry-front : (e : Entry) (index : List Entry) (a : ℕ) → e .logical ≡ a → entryOf (e ∷ index) a ≡ e
 unfolding placeOf
 entry-front e index a h = rw (eq-eqb (e .logical) a h)
 
-entry-behind : (e : Entry) (index : List Entry) (a : ℕ) → (e .logical ≡ a → ⊥) → entryOf (e ∷ index) a ≡ entryOf index a
+pub entry-behind : (e : Entry) (index : List Entry) (a : ℕ) → (e .logical ≡ a → ⊥) → entryOf (e ∷ index) a ≡ entryOf index a
 unfolding placeOf
 entry-behind e index a n = rw (ne-eqb (e .logical) a n)
 

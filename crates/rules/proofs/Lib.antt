@@ -6,4 +6,17 @@ pub mod Entries
 pub mod Rising
 pub mod Range
 pub mod Writes
+pub mod Same
+pub mod Headers
+pub mod RoundTrips
+pub mod Records
+pub mod Afresh
+pub mod Sessions
+pub mod Stored
+pub mod Holds
+pub mod Opened
+pub mod Locks
+pub mod Commits
+pub mod Kept
+pub mod Created
 pub mod Examples

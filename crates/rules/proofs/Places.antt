@@ -1,12 +1,13 @@
 -- The laws of what goes by the form. They hold of every form, and outside of them nothing rests on the numbers of the layout.
 use mathlib.Core.Path.{_≡_, refl, sym, _∙_}
 use mathlib.Core.List.{List, _++_}
-use Prim.Native.Nat.{ℕ, zero, suc, _+_, _*_, _≤_, _<_}
+use Prim.Native.Nat.{ℕ, zero, suc, _+_, _*_, _^_, _≤_, _<_}
 use native.Mathlib.Nat.{zero-add, suc-mul, add-mul, mul-le-mul-right}
 use native.Mathlib.Omega.{arith}
 use lib.ListN.{length, take, getD}
-use Rattle.rules.specs.Bytes.{part}
+use Rattle.rules.specs.Bytes.{part, numberBytes}
 use Rattle.rules.specs.Layout.{
+  limit,
   entryLimit,
   endOf,
   addressAt,
@@ -20,7 +21,7 @@ use Rattle.rules.specs.Layout.{
   entryCountAt,
 }
 use Rattle.rules.specs.declared.Form.{Form}
-use Rattle.rules.proofs.Bytes.{part-add, part-part, length-numberBytes, number-stands}
+use Rattle.rules.proofs.Bytes.{part-add, part-part, length-numberBytes, number-stands, value-numberBytes}
 
 -- What lies within the first m bytes is read from them alone.
 pub part-take : (xs : List ℕ) (m at n : ℕ) → at + n ≤ m → part (take m xs) at n ≡ part xs at n
@@ -33,6 +34,10 @@ module _ (f : Form) where
   pub end-behind : (at size : ℕ) → at + size ≤ endOf f at size
   unfolding endOf
   end-behind at size = omega arith
+
+  pub end-ordered : (at at' size size' : ℕ) → at ≤ at' → size ≤ size' → endOf f at size ≤ endOf f at' size'
+  unfolding endOf
+  end-ordered at at' size size' l m = omega arith
 
   pub end-near : (at size : ℕ) → endOf f at size ≤ at + size + f .page
   unfolding endOf
@@ -95,6 +100,22 @@ module _ (f : Form) where
   unfolding addressBytes
   length-addressBytes v = length-numberBytes 8 v
 
+  -- The same bytes say the same.
+  pub address-same : (xs ys : List ℕ) (at to : ℕ) → part xs at 8 ≡ part ys to 8 → addressAt f xs at ≡ addressAt f ys to
+  unfolding addressAt
+  address-same xs ys at to e = rw e
+
+  pub page-sum-same : (xs ys : List ℕ) (at to : ℕ) → part xs at (entrySumAt f) ≡ part ys to (entrySumAt f) → pageSumAt f xs at ≡ pageSumAt f ys to
+  unfolding pageSumAt entrySumAt
+  page-sum-same xs ys at to e =
+      let inner : part xs (at + 16) 4 ≡ part ys (to + 16) 4 = sym (part-part xs at 20 16 4 (omega arith)) ∙ rw e (part-part ys to 20 16 4 (omega arith)) in
+      rw inner
+
+  -- An address that fits is read back.
+  pub address-back : (xs : List ℕ) (at v : ℕ) → part xs at 8 ≡ addressBytes f v → v ≤ limit → addressAt f xs at ≡ v
+  unfolding addressAt addressBytes
+  address-back xs at v e h = rw e (value-numberBytes 8 v (omega arith))
+
   pub page-sum-take : (xs : List ℕ) (m at : ℕ) → at + entrySumAt f ≤ m → pageSumAt f (take m xs) at ≡ pageSumAt f xs at
   unfolding pageSumAt entrySumAt
   page-sum-take xs m at h = rw (part-take xs m (at + 16) 4 (omega arith))
@@ -103,6 +124,13 @@ module _ (f : Form) where
   pub length-pageSumBytes : (v : ℕ) → 16 + length (pageSumBytes f v) ≡ entrySumAt f
   unfolding pageSumBytes entrySumAt
   length-pageSumBytes v = rw (length-numberBytes 4 v)
+
+  -- A page's checksum is read back.
+  pub page-sum-back : (xs : List ℕ) (at v : ℕ) → part xs (at + 16) (length (pageSumBytes f v)) ≡ pageSumBytes f v → v < 2 ^ 32 → pageSumAt f xs at ≡ v
+  unfolding pageSumAt pageSumBytes
+  page-sum-back xs at v e h =
+      let four : part xs (at + 16) 4 ≡ numberBytes 4 v = rw (length-numberBytes 4 v) at e in
+      rw four (value-numberBytes 4 v h)
 
   -- What stands has the bytes of what is read there.
   module _ (xs : List ℕ) (small : (k : ℕ) → getD xs k 0 < 256) (at : ℕ) where

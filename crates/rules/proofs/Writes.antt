@@ -9,7 +9,7 @@ use native.Mathlib.Omega.{arith}
 use lib.Dec.{leb, ltb, eqb}
 use lib.ListN.{length, take, drop, getD, length-append, length-set, length-take, length-drop, List·getD-append}
 use lib.Seq.{length-take-le, getD-take, getD-drop, getD-append-add, ext-getD}
-use borrow.Author.Tests.{lt-ltb, ltb-true, ltb-false, leb-true, leb-false, eqb-true, eqb-false, eq-eqb, ne-eqb}
+use borrow.Author.Tests.{lt-ltb, le-ltb, ltb-true, ltb-false, leb-true, leb-false, eqb-true, eqb-false, eq-eqb, ne-eqb}
 use Rattle.rules.specs.Bytes.{byteAt, part, laid, tabulate}
 use Rattle.rules.specs.View.{placeOf, has, noEntry, logicals, hasPage, entryOf, pageOf, revisionByte, ownPages, shownByte, sessionByte, sessionBytes, pagesFrom, pagesIn, pagesShared}
 use Rattle.rules.specs.Session.{Held, withPage, firstCopy, touched, touching, overPage, laidOnPage, writtenPages, written}
@@ -26,24 +26,24 @@ module _ (xs : List ℕ) (at : ℕ) (ys : List ℕ) (starts : at ≤ length xs) 
   ahead-long : length (take at xs ++ ys) ≡ at + length ys
   ahead-long = rw (length-append, length-take-le at xs starts)
 
-  length-over : length (laid xs at ys) ≡ max (length xs) (at + length ys)
+  pub length-over : length (laid xs at ys) ≡ max (length xs) (at + length ys)
   unfolding laid
   length-over = rw (length-append, ahead-long, length-drop) (omega arith)
 
-  byte-below : (i : ℕ) → i < at → getD (laid xs at ys) i 0 ≡ getD xs i 0
+  pub byte-below : (i : ℕ) → i < at → getD (laid xs at ys) i 0 ≡ getD xs i 0
   unfolding laid
   byte-below i l =
       rw append-assoc
       (List·getD-append (take at xs) (ys ++ drop (at + length ys) xs) 0 i (rw (length-take-le at xs starts) l) ∙ getD-take at xs i 0 l)
 
-  byte-on : (j : ℕ) → j < length ys → getD (laid xs at ys) (at + j) 0 ≡ getD ys j 0
+  pub byte-on : (j : ℕ) → j < length ys → getD (laid xs at ys) (at + j) 0 ≡ getD ys j 0
   unfolding laid
   byte-on j l =
       rw append-assoc
       (rw (length-take-le at xs starts) at (getD-append-add (take at xs) (ys ++ drop (at + length ys) xs) j 0)
       ∙ List·getD-append ys (drop (at + length ys) xs) 0 j l)
 
-  byte-above : (i : ℕ) → at + length ys ≤ i → getD (laid xs at ys) i 0 ≡ getD xs i 0
+  pub byte-above : (i : ℕ) → at + length ys ≤ i → getD (laid xs at ys) i 0 ≡ getD xs i 0
   unfolding laid
   byte-above i l =
       let e : at + length ys + (i - (at + length ys)) ≡ i = omega arith in
@@ -52,12 +52,12 @@ module _ (xs : List ℕ) (at : ℕ) (ys : List ℕ) (starts : at ≤ length xs) 
 -- ---- the byte that is shown
 
 module _ (original : List ℕ) (p : ℕ) (index : List Entry) (end : ℕ) where
-  shown-own : (h own : List ℕ) (i : ℕ) → has own (pageOf p i) ≡ true
+  pub shown-own : (h own : List ℕ) (i : ℕ) → has own (pageOf p i) ≡ true
       → shownByte original h p index end own i ≡ byteAt h (end + placeOf (pageOf p i) own * p + i % p)
   unfolding shownByte
   shown-own h own i t = rw t
 
-  shown-parent : (h own : List ℕ) (i : ℕ) → has own (pageOf p i) ≡ false
+  pub shown-parent : (h own : List ℕ) (i : ℕ) → has own (pageOf p i) ≡ false
       → shownByte original h p index end own i ≡ revisionByte original h p index i
   unfolding shownByte
   shown-parent h own i t = rw t
@@ -163,6 +163,10 @@ module _ (h : List ℕ) (to p a at : ℕ) (bytes : List ℕ) (room : to + p ≤ 
   unfolding overPage
   length-overPage = length-laid h (to + (max at a - a)) (run p a at bytes) run-fits
 
+  over-ahead : (i : ℕ) → i < to → byteAt (overPage h to p a at bytes) i ≡ byteAt h i
+  unfolding overPage
+  over-ahead i l = byte-below h (to + (max at a - a)) (run p a at bytes) (omega (arith, run-fits)) i (omega arith)
+
 -- The page's bytes show the write, and every other byte is as it was.
 module _ (original : List ℕ) (p : ℕ) (index : List Entry) (end : ℕ) (some : 0 < p)
     (stored : (k : ℕ) → k < length index → getD index k noEntry .physical + p ≤ end)
@@ -253,6 +257,23 @@ module _ (original : List ℕ) (p : ℕ) (index : List Entry) (end : ℕ) (some 
       (rw (length-tabulate p copyByte) (omega arith)) own i (λ u e. omega (arith, ltb-true (placeOf (pageOf p i) own) (length own) u)))
       (either (eqb a (pageOf p i)))
 
+  -- Past the size it is zero, and so is an own page that was.
+  zero-copied : (i : ℕ) → size ≤ i → (has own (pageOf p i) ≡ true → shownByte original h p index end own i ≡ 0) → has (own ++ (a ∷ [])) (pageOf p i) ≡ true
+      → shownByte original copied p index end (own ++ (a ∷ [])) i ≡ 0
+  zero-copied i past nought there = ⊎-elim
+      (λ (t : eqb a (pageOf p i) ≡ true).
+      let e : a ≡ pageOf p i = eqb-true a (pageOf p i) t in
+      let split : a + i % p ≡ i = rw e (div-add-mod' i p) in
+      let place : placeOf (pageOf p i) (own ++ (a ∷ [])) ≡ n = rw (← e) (place-snoc a own ∙ omega (arith, place-within a own, ltb-false (placeOf a own) (length own) missing)) in
+      let byte : byteAt copied (end + n * p + i % p) ≡ copyByte (i % p) =
+      byte-on h (end + n * p) (tabulate p copyByte) (omega arith) (i % p) (rw (length-tabulate p copyByte) (mod-lt i some)) ∙ byte-tabulate p copyByte (i % p) (mod-lt i some) in
+      shown-own original p index end copied (own ++ (a ∷ [])) i there
+      ∙ rw place (byte ∙ rw (split, le-ltb i size past)))
+      (λ (t : eqb a (pageOf p i) ≡ false).
+      let was : has own (pageOf p i) ≡ true = sym (has-snoc own a (pageOf p i) ∙ rw t (or-false (has own (pageOf p i)))) ∙ there in
+      shown-copied i (λ e. absurd (eqb-false a (pageOf p i) t (sym e))) ∙ nought was)
+      (either (eqb a (pageOf p i)))
+
 -- ---- one page of a write
 
 -- Choices between a byte of the write and the one that was shown.
@@ -285,12 +306,39 @@ module _ (original : List ℕ) (s : Setting) (index : List Entry) where
     room : held .session .end + length (touching (ownPages (held .session)) pages) * page ≤ length (held .history)
     stored : (k : ℕ) → k < length index → getD index k noEntry .physical + page ≤ held .session .end
 
+  -- What a write leaves alone as it goes from page to page: the session's numbers but for its pages, and the history ahead of them.
+  record Alone (before after : Held) : Type 0 where
+    end : after .session .end ≡ before .session .end
+    count : after .session .count ≡ before .session .count
+    parent : after .session .parent ≡ before .session .parent
+    size : after .session .size ≡ before .session .size
+    slots : length (after .session .pages) ≡ length (before .session .pages)
+    long : length (after .history) ≡ length (before .history)
+    ahead : (i : ℕ) → i < before .session .end → byteAt (after .history) i ≡ byteAt (before .history) i
+
+  alone-both : {first second third : Held} → Alone first second → Alone second third → Alone first third
+  alone-both x y = record {
+    end = y .end ∙ x .end;
+    count = y .count ∙ x .count;
+    parent = y .parent ∙ x .parent;
+    size = y .size ∙ x .size;
+    slots = y .slots ∙ x .slots;
+    long = y .long ∙ x .long;
+    ahead = λ i l. y .ahead i (omega (arith, x .end)) ∙ x .ahead i l;
+  }
+
+  -- An own page is zero past the session's size.
+  abbrev Zero : Held → ℕ → Type 0
+  Zero held i = has (ownPages (held .session)) (pageOf page i) ≡ true → shows held i ≡ 0
+
   -- What a touch of a page leaves.
   record Touched (a : ℕ) (pages : List ℕ) (before after : Held) : Type 0 where
-    size : after .session .size ≡ before .session .size
+    alone : Alone before after
+    own : ownPages (after .session) ≡ touching (ownPages (before .session)) (a ∷ [])
     there : has (ownPages (after .session)) a ≡ true
     roomy : Roomy after pages
     shown : (i : ℕ) → (pageOf page i ≡ a → i < before .session .size) → shows after i ≡ shows before i
+    zero : (i : ℕ) → before .session .size ≤ i → Zero before i → Zero after i
 
   module _ (some : 0 < page) (a : ℕ) (pages : List ℕ) (held : Held) (w : Roomy held (a ∷ pages)) where
     abbrev st : State
@@ -301,10 +349,12 @@ module _ (original : List ℕ) (s : Setting) (index : List Entry) where
     touch-old t =
         rw t
         (record {
-          size = refl;
+          alone = record { end = refl; count = refl; parent = refl; size = refl; slots = refl; long = refl; ahead = λ i l. refl };
+          own = rw t;
           there = t;
           roomy = record { few = w .few; listed = rw t at (w .listed); room = rw t at (w .room); stored = w .stored };
           shown = λ i l. refl;
+          zero = λ i l z. z;
         })
 
     touch-new : has (ownPages st) a ≡ false → Touched a pages held (touched original s index a held)
@@ -317,9 +367,19 @@ module _ (original : List ℕ) (s : Setting) (index : List Entry) where
         let m : suc (st .n) * page ≤ length (touching (ownPages st) (a ∷ pages)) * page = mul-le-mul-right page (omega arith) in
         let room : st .end + st .n * page + page ≤ length (held .history) = omega (arith, w .room, suc-mul (st .n) page) in
         let long = length-copied original page index (st .end) some (w .stored) (held .history) (ownPages st) (st .n) a (st .size) n t room in
+        let bytes : List ℕ = tabulate page (copyByte original page index (st .end) some (w .stored) (held .history) (ownPages st) (st .n) a (st .size) n t room) in
         rw t
         (record {
-          size = refl;
+          alone = record {
+            end = refl;
+            count = refl;
+            parent = refl;
+            size = refl;
+            slots = length-set (st .pages) (st .n) a;
+            long = long;
+            ahead = λ i l. byte-below (held .history) (st .end + st .n * page) bytes (omega arith) i (omega arith);
+          };
+          own = rw t more;
           there = rw more (has-snoc (ownPages st) a a ∙ rw (eq-eqb a a refl) (or-true (has (ownPages st) a)));
           roomy = record {
             few = rw length-set (omega arith);
@@ -328,6 +388,7 @@ module _ (original : List ℕ) (s : Setting) (index : List Entry) where
             stored = w .stored;
           };
           shown = λ i l. rw more (shown-copied original page index (st .end) some (w .stored) (held .history) (ownPages st) (st .n) a (st .size) n t room i l);
+          zero = λ i l z u. rw more (zero-copied original page index (st .end) some (w .stored) (held .history) (ownPages st) (st .n) a (st .size) n t room i l z (rw more at u));
         })
 
     touch-leaves : Touched a pages held (touched original s index a held)
@@ -345,8 +406,10 @@ module _ (original : List ℕ) (s : Setting) (index : List Entry) where
     -- What one page of a write leaves: the write's bytes in that page, and else what was shown. Of a byte past the size, which a first
     -- copy makes zero, this holds only if the write has it.
     record Stepped (a : ℕ) (pages : List ℕ) (before after : Held) : Type 0 where
-      size : after .session .size ≡ before .session .size
+      alone : Alone before after
+      own : ownPages (after .session) ≡ touching (ownPages (before .session)) (a ∷ [])
       roomy : Roomy after pages
+      zero : (i : ℕ) → before .session .size ≤ i → covered i ≡ false → Zero before i → Zero after i
       shown : (i : ℕ) → (covered i ≡ false → i < before .session .size)
           → shows after i ≡ cond (covered i && eqb a (pageOf page i)) (byteAt bytes (i - at)) (shows before i)
 
@@ -361,10 +424,22 @@ module _ (original : List ℕ) (s : Setting) (index : List Entry) where
         let m : suc (placeOf a own) * page ≤ length (touching own pages) * page = mul-le-mul-right page k in
         let room : st .end + placeOf a own * page + page ≤ length (middle .history) = omega (arith, z .roomy .room, suc-mul (placeOf a own) page) in
         let long = length-overPage (middle .history) (st .end + placeOf a own * page) page a at bytes room near in
+        let shown = shown-over original page index (st .end) some (z .roomy .stored) (middle .history) own a (z .there) room at bytes near in
+        let laid-alone : Alone middle (step a held) = record {
+          end = refl;
+          count = refl;
+          parent = refl;
+          size = refl;
+          slots = refl;
+          long = long;
+          ahead = λ i l. over-ahead (middle .history) (st .end + placeOf a own * page) page a at bytes room near i (omega arith);
+        } in
         record {
-          size = z .size;
+          alone = alone-both (z .alone) laid-alone;
+          own = z .own;
+          zero = λ i past f nought u. shown i ∙ rw f (z .zero i past nought u);
           roomy = record { few = z .roomy .few; listed = z .roomy .listed; room = rw long (z .roomy .room); stored = z .roomy .stored };
-          shown = λ i below. shown-over original page index (st .end) some (z .roomy .stored) (middle .history) own a (z .there) room at bytes near i
+          shown = λ i below. shown i
               ∙ cond-else (covered i && eqb a (pageOf page i)) (byteAt bytes (i - at)) (λ f. z .shown i (λ e. below (rw (eq-eqb a (pageOf page i) (sym e), and-true) at f)));
         }
 
@@ -377,8 +452,34 @@ module _ (original : List ℕ) (s : Setting) (index : List Entry) where
     written-shows zero a held w near i below = rw and-false
     written-shows (suc m) a held w near i below =
         let z = step-leaves a (pagesFrom page (a + page) m) held w near in
-        written-shows m (a + page) (step a held) (z .roomy) (omega arith) i (λ f. rw (z .size) (below f))
+        written-shows m (a + page) (step a held) (z .roomy) (omega arith) i (λ f. rw (z .alone .size) (below f))
         ∙ rw (z .shown i below, has-cons a (pagesFrom page (a + page) m) (pageOf page i)) (cond-twice (covered i) _ _ _ _)
+
+    -- What they leave alone, which pages are the session's own then, and that these are zero past its size.
+    record Passed (pages : List ℕ) (before after : Held) : Type 0 where
+      alone : Alone before after
+      few : after .session .n ≤ length (after .session .pages)
+      own : ownPages (after .session) ≡ touching (ownPages (before .session)) pages
+      zero : (i : ℕ) → before .session .size ≤ i → covered i ≡ false → Zero before i → Zero after i
+
+    written-passes : (m a : ℕ) (held : Held) → Roomy held (pagesFrom page a m) → at ≤ a + page
+        → Passed (pagesFrom page a m) held (writtenPages original s index at bytes (pagesFrom page a m) held)
+    unfolding writtenPages pagesFrom touching
+    written-passes zero a held w near = record {
+      alone = record { end = refl; count = refl; parent = refl; size = refl; slots = refl; long = refl; ahead = λ i l. refl };
+      few = w .few;
+      own = refl;
+      zero = λ i past f z. z;
+    }
+    written-passes (suc m) a held w near =
+        let z = step-leaves a (pagesFrom page (a + page) m) held w near in
+        let rest = written-passes m (a + page) (step a held) (z .roomy) (omega arith) in
+        record {
+          alone = alone-both (z .alone) (rest .alone);
+          few = rest .few;
+          own = rest .own ∙ ap (λ (own : List ℕ). touching own (pagesFrom page (a + page) m)) (z .own);
+          zero = λ i past f nought. rest .zero i (rw (z .alone .size) past) f (z .zero i past f nought);
+        }
 
 -- ---- the pages of a write
 
@@ -459,3 +560,37 @@ module _ (original history : List ℕ) (s : Setting) (st : State) (index : List 
       ≡ laid (sessionBytes original history s st index 0 (st .size)) at bytes
   unfolding covers
   bytes-written = table-laid _ _ (st .size) at bytes starts (λ i l. rw zero-add (byte-written i l))
+
+  -- Its pages are the ones before with those that it touched behind them, it leaves the other numbers and all ahead of its pages alone,
+  -- and an own page is zero past the new size if it was past the old one.
+  pub record Leaves (after : Held) : Type 0 where
+    pub end : after .session .end ≡ st .end
+    pub count : after .session .count ≡ st .count
+    pub parent : after .session .parent ≡ st .parent
+    pub size : after .session .size ≡ max (st .size) (at + length bytes)
+    pub slots : length (after .session .pages) ≡ length (st .pages)
+    pub filled : after .session .n ≤ length (after .session .pages)
+    pub own : ownPages (after .session) ≡ touching (ownPages st) (pagesShared (s .form .page) at (length bytes))
+    pub long : length (after .history) ≡ length history
+    pub ahead : (i : ℕ) → i < st .end → byteAt (after .history) i ≡ byteAt history i
+    pub zero : (i : ℕ) → max (st .size) (at + length bytes) ≤ i
+        → (has (ownPages st) (pageOf (s .form .page) i) ≡ true → sessionByte original history s st index i ≡ 0)
+        → has (ownPages (after .session)) (pageOf (s .form .page) i) ≡ true → sessionByte original (after .history) s (after .session) index i ≡ 0
+
+  pub write-leaves : Leaves (afterWrite original history s st index at bytes)
+  unfolding written covers
+  write-leaves =
+      let w = written-passes original s index some at bytes (pagesIn (s .form .page) at (length bytes)) (pageOf (s .form .page) at) (record { history = history; session = st })
+      (record { few = few; listed = listed; room = room; stored = stored }) (omega (arith, div-add-mod' at (s .form .page), mod-lt at some)) in
+      record {
+        end = w .alone .end;
+        count = w .alone .count;
+        parent = w .alone .parent;
+        size = refl;
+        slots = w .alone .slots;
+        filled = w .few;
+        own = w .own;
+        long = w .alone .long;
+        ahead = w .alone .ahead;
+        zero = λ i past. w .zero i (omega arith) (rw (le-ltb i (at + length bytes) (omega arith)) (and-false (leb at i)));
+      }

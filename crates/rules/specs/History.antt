@@ -1,33 +1,35 @@
--- Demand 3, as a statement: "From a freshly created history, after any calls in any order, every committed revision reads for ever
--- as its parent's bytes with its session's accepted writes laid on; its stored index equals the one worked out afresh; apart from
--- the 40 header bytes nothing below the end of a commit changes again."
-use Prim.Native.Nat.{ℕ, _+_, _*_, _-_, _≤_}
+-- Demand 3: "From a freshly created history, after any calls in any order, every committed revision reads for ever as its parent's
+-- bytes with its session's accepted writes laid on; its stored index equals the one worked out afresh; apart from the 40 header bytes
+-- nothing below the end of a commit changes again."
+use Prim.Native.Nat.{ℕ, zero, suc, _+_, _*_, _-_, _≤_, _<_}
 use mathlib.Core.Path.{_≡_}
-use mathlib.Core.Bool.{Bool}
+use mathlib.Core.Bool.{Bool, true, false, cond}
 use mathlib.Core.List.{List, [], _∷_, _++_}
 use lib.ListN.{length, getD}
 use Rattle.rules.specs.Bytes.{byteAt, part, laid, tabulate}
 use Rattle.rules.specs.Checksum.{checksum}
-use Rattle.rules.specs.Layout.{headerWidth, settingOf, committedEnd, recordOf, indexOf}
-use Rattle.rules.specs.View.{pagesShared}
-use Rattle.rules.specs.Session.{ended, touching, putAll}
-use Rattle.rules.specs.Calls.{accepted, create, read, openForWriting, sessionRead, write, commit, release}
+use Rattle.rules.specs.Layout.{limit, headerWidth, settingOf, committedEnd, recordOf}
+use Rattle.rules.specs.View.{placeOf, has, hasPage, entryOf, pagesIn, pagesShared}
+use Rattle.rules.specs.Session.{ended, touching}
+use Rattle.rules.specs.Calls.{Reply, Outcome, accepted, asked, revisionIndex, create, read, openForWriting, sessionRead, write, commit, release, fault, check}
 use Rattle.rules.specs.declared.Entry.{Entry}
 use Rattle.rules.specs.declared.State.{State}
 
 -- ---- Calls, and what they leave
 
--- The calls on a history, each with what it is given; any of them may be refused. `looks` is every call that is lent the history
--- for reading alone and no session: read, look-up, browsing, whole check and list.
+-- The calls on a history, each with what it is given; any of them may be refused. A refused open gives back the ended session and
+-- leaves the one that the caller had usable: `keeps` says that the caller goes on with that one. `looks` is every call that is lent
+-- the history for reading alone and no session: read, look-up, browsing, whole check and list.
 pub data Call : Type 0 where
-  opens : (revision : ℕ) → Call
+  opens : (revision : ℕ) (keeps : Bool) → Call
   writes : (at : ℕ) (bytes : List ℕ) → Call
   commits : (time : List ℕ) (user : ℕ) (name comment : List ℕ) → Call
   releases : Call
   sessionReads : (at : ℕ) (out : List ℕ) → Call
   looks : Call
 
--- A write that was accepted, and a session that was committed: its parent, the address where its pages began, its writes in order.
+-- A write that was accepted, and what is noted of a session: the revision that it was opened on, the address where its pages begin,
+-- and its accepted writes in order.
 pub record Write : Type 0 where
   pub at : ℕ
   pub bytes : List ℕ
@@ -37,53 +39,76 @@ pub record Logged : Type 0 where
   pub began : ℕ
   pub writes : List Write
 
--- A moment: the history, the session that the last call gave back, that session's accepted writes, and the log.
+-- A moment: the history, the session that the caller has, whether that one is open, what is noted of it, and the committed sessions.
 pub record Moment : Type 0 where
   pub history : List ℕ
   pub session : State
-  pub writes : List Write
+  pub held : Bool
+  pub noted : Logged
   pub log : List Logged
 
--- The moment after a call.
-unfoldable pub next : List ℕ → Call → Moment → Moment
-next original (opens revision) m =
-    let o = openForWriting original (m .history) revision in
-    record { history = o .bytes; session = o .session; writes = []; log = m .log }
-next original (writes at bytes) m =
-    let o = write (m .session) original (m .history) at bytes in
-    let more = m .writes ++ (record { at = at; bytes = bytes } ∷ []) in
-    record { history = o .bytes; session = o .session; writes = accepted (o .number) more (m .writes); log = m .log }
-next original (commits time user name comment) m =
-    let o = commit (m .session) (m .history) time user name comment in
-    let more = m .log ++ (record { parent = m .session .parent; began = m .session .end; writes = m .writes } ∷ []) in
+abbrev pub openedOn : ℕ → ℕ → Logged
+openedOn parent began = record { parent = parent; began = began; writes = [] }
+
+abbrev pub noting : Logged → ℕ → List ℕ → Logged
+noting l at bytes = record { parent = l .parent; began = l .began; writes = l .writes ++ (record { at = at; bytes = bytes } ∷ []) }
+
+-- What a call answers and leaves. A session read leaves its own buffer, and a call that only looks leaves nothing.
+unfoldable pub answered : List ℕ → Call → Moment → Outcome
+answered original (opens revision keeps) m = openForWriting original (m .history) revision
+answered original (writes at bytes) m = write (m .session) original (m .history) at bytes
+answered original (commits time user name comment) m = commit (m .session) (m .history) time user name comment
+answered original releases m = release (m .session) (m .history)
+answered original (sessionReads at out) m = sessionRead (m .session) original (m .history) at out
+answered original looks m = record { number = 0; session = m .session; bytes = m .history }
+
+-- The moment that an answer leaves: the session is the one handed back, and what was accepted is noted.
+unfoldable pub taken : Call → Outcome → Moment → Moment
+taken (opens revision keeps) o m =
+    let s = settingOf (m .history) in
     record {
       history = o .bytes;
-      session = o .session;
-      writes = accepted (o .number) [] (m .writes);
-      log = accepted (o .number) more (m .log);
+      session = accepted (o .number) (o .session) (cond keeps (m .session) (o .session));
+      held = accepted (o .number) true (cond keeps (m .held) false);
+      noted = accepted (o .number) (openedOn (asked s revision) (committedEnd s)) (m .noted);
+      log = m .log;
     }
-next original releases m =
-    let o = release (m .session) (m .history) in
-    record { history = o .bytes; session = o .session; writes = accepted (o .number) [] (m .writes); log = m .log }
-next original (sessionReads at out) m =
-    let o = sessionRead (m .session) original (m .history) at out in
-    record { history = m .history; session = o .session; writes = m .writes; log = m .log }
-next original looks m = m
+taken (writes at bytes) o m = record {
+  history = o .bytes;
+  session = o .session;
+  held = m .held;
+  noted = accepted (o .number) (noting (m .noted) at bytes) (m .noted);
+  log = m .log;
+}
+taken (commits time user name comment) o m = record {
+  history = o .bytes;
+  session = o .session;
+  held = accepted (o .number) false (m .held);
+  noted = m .noted;
+  log = accepted (o .number) (m .log ++ (m .noted ∷ [])) (m .log);
+}
+taken releases o m = record {
+  history = o .bytes;
+  session = o .session;
+  held = accepted (o .number) false (m .held);
+  noted = m .noted;
+  log = m .log;
+}
+taken (sessionReads at out) o m = record { history = m .history; session = o .session; held = m .held; noted = m .noted; log = m .log }
+taken looks o m = m
+
+abbrev pub next : List ℕ → Call → Moment → Moment
+next original call m = taken call (answered original call m) m
 
 unfoldable pub after : List ℕ → List Call → Moment → Moment
 after original [] m = m
 after original (call ∷ calls) m = after original calls (next original call m)
 
--- The moment of creation: no session is open, and nothing was committed.
+-- The first moment: no session is open, and nothing was committed.
 abbrev pub fresh : List ℕ → Moment
-fresh history = record { history = history; session = ended; writes = []; log = [] }
+fresh history = record { history = history; session = ended; held = false; noted = openedOn 0 0; log = [] }
 
 -- ---- What the log says of each revision, worked out afresh
-
--- A revision's bytes and its index.
-pub record Worked : Type 0 where
-  pub bytes : List ℕ
-  pub index : List Entry
 
 -- Writes laid on in order.
 unfoldable pub laidOn : List ℕ → List Write → List ℕ
@@ -95,59 +120,115 @@ unfoldable pub touchedBy : ℕ → List ℕ → List Write → List ℕ
 touchedBy p own [] = own
 touchedBy p own (w ∷ rest) = touchedBy p (touching own (pagesShared p (w .at) (length (w .bytes)))) rest
 
--- The entry of the i-th page touched: it lies i pages behind the place where they began, and holds the revision's bytes, with
--- zeros past their end.
-abbrev pub workedEntry : ℕ → ℕ → List ℕ → ℕ → ℕ → Entry
-workedEntry p began bytes i a = record {
+-- What a session brought: the address where its pages began, these pages, and the bytes of its revision.
+pub record Brought : Type 0 where
+  pub began : ℕ
+  pub pages : List ℕ
+  pub bytes : List ℕ
+
+-- A revision: its bytes, and its line, that is the sessions that led to it, the last of them first, from a revision that was given
+-- with its index.
+pub record Revision : Type 0 where
+  pub bytes : List ℕ
+  pub line : List Brought
+  pub given : List Entry
+
+-- A page that a session touched lies behind those that it touched before, and holds the revision's bytes, with zeros past their end.
+abbrev pub broughtEntry : ℕ → Brought → ℕ → Entry
+broughtEntry p b a = record {
   logical = a;
-  physical = began + i * p;
-  checksum = checksum (tabulate p (λ j. byteAt bytes (a + j)));
+  physical = b .began + placeOf a (b .pages) * p;
+  checksum = checksum (tabulate p (λ j. byteAt (b .bytes) (a + j)));
 }
 
--- A revision from its parent.
-unfoldable pub worked : ℕ → Worked → Logged → Worked
-worked p parent logged =
-    let bytes = laidOn (parent .bytes) (logged .writes) in
+-- The entry of page a if there is one: of the last session on the line that touched it, else the one that was given.
+unfoldable pub entryAfresh : ℕ → List Entry → List Brought → ℕ → List Entry
+entryAfresh p given [] a = cond (hasPage given a) (entryOf given a ∷ []) []
+entryAfresh p given (b ∷ line) a = cond (has (b .pages) a) (broughtEntry p b a ∷ []) (entryAfresh p given line a)
+
+-- Page after page in rising order: of m pages from address a on, and of all that there can be.
+unfoldable pub entriesAfresh : ℕ → List Entry → List Brought → ℕ → ℕ → List Entry
+entriesAfresh p given line a zero = []
+entriesAfresh p given line a (suc m) = entryAfresh p given line a ++ entriesAfresh p given line (a + p) m
+
+abbrev pub indexAfresh : ℕ → Revision → List Entry
+indexAfresh p v = entriesAfresh p (v .given) (v .line) 0 (pagesIn p 0 limit)
+
+-- A revision from its parent, by what was noted of its session.
+unfoldable pub worked : ℕ → Revision → Logged → Revision
+worked p parent l =
+    let bytes = laidOn (parent .bytes) (l .writes) in
     record {
       bytes = bytes;
-      index = putAll (workedEntry p (logged .began) bytes) 0 (touchedBy p [] (logged .writes)) (parent .index);
+      line = record { began = l .began; pages = touchedBy p [] (l .writes); bytes = bytes } ∷ parent .line;
+      given = parent .given;
     }
 
-abbrev pub nothing : Worked
-nothing = record { bytes = []; index = [] }
+abbrev pub nothing : Revision
+nothing = record { bytes = []; line = []; given = [] }
 
--- Every revision, from 0 on, by the log.
-unfoldable pub workedOut : ℕ → List Worked → List Logged → List Worked
-workedOut p known [] = known
-workedOut p known (logged ∷ log) = workedOut p (known ++ (worked p (getD known (logged .parent) nothing) logged ∷ [])) log
-
-abbrev pub revisionsOf : ℕ → List ℕ → List Logged → List Worked
-revisionsOf p original log = workedOut p (record { bytes = original; index = [] } ∷ []) log
+-- Every revision: those that were given, and behind them those of the log.
+unfoldable pub revisionsOf : ℕ → List Revision → List Logged → List Revision
+revisionsOf p known [] = known
+revisionsOf p known (l ∷ log) = revisionsOf p (known ++ (worked p (getD known (l .parent) nothing) l ∷ [])) log
 
 -- ---- The statement
 
--- Revision k of a history reads as it was worked out, and its stored index is the one worked out.
-pub record Stands (original history : List ℕ) (k : ℕ) (w : Worked) : Type 0 where
-  pub size : recordOf history (settingOf history) k .logical ≡ length (w .bytes)
-  pub reads : (at : ℕ) (out : List ℕ) → at + length out ≤ length (w .bytes)
-      → read original history k at out ≡ record { number = 0; bytes = part (w .bytes) at (length out) }
-  pub index : indexOf history (settingOf history .form) (recordOf history (settingOf history) k) ≡ w .index
+-- Revision k of a history reads as these bytes, from every offset and for every length, and its stored index is this one.
+pub record Stands (original history : List ℕ) (k : ℕ) (bytes : List ℕ) (index : List Entry) : Type 0 where
+  pub size : recordOf history (settingOf history) k .logical ≡ length bytes
+  pub reads : (at : ℕ) (out : List ℕ) → at + length out ≤ length bytes
+      → read original history k at out ≡ record { number = 0; bytes = part bytes at (length out) }
+  pub indexed : revisionIndex history (settingOf history) k ≡ index
 
--- Of two moments, the revisions committed at the earlier one stand at the later one, and the bytes from the header up to the earlier
--- committed end are unchanged.
-pub record Kept (original : List ℕ) (page : ℕ) (earlier later : Moment) : Type 0 where
-  pub counted : settingOf (earlier .history) .count ≡ length (earlier .log)
-  pub stands : (k : ℕ) → k ≤ length (earlier .log)
-      → Stands original (later .history) k (getD (revisionsOf page original (earlier .log)) k nothing)
+-- The session reads as its parent's bytes with its accepted writes laid on.
+pub record Shows (original : List ℕ) (m : Moment) (parent : Revision) : Type 0 where
+  pub size : m .session .size ≡ length (laidOn (parent .bytes) (m .noted .writes))
+  pub reads : (at : ℕ) (out : List ℕ) → at + length out ≤ m .session .size
+      → sessionRead (m .session) original (m .history) at out
+      ≡ record { number = 0; session = m .session; bytes = part (laidOn (parent .bytes) (m .noted .writes)) at (length out) }
+
+-- A history as it is taken up: the whole check accepts it, its original and page size are these, and its revisions, the first of them
+-- the original, are given with their bytes and indexes. No session led to them.
+pub record Given (original : List ℕ) (p : ℕ) (history : List ℕ) (given : List Revision) : Type 0 where
+  pub checked : check history ≡ fault 0 0 0
+  pub lent : settingOf history .original ≡ length original
+  pub page : settingOf history .form .page ≡ p
+  pub counted : settingOf history .count + 1 ≡ length given
+  pub stands : (k : ℕ) → k < length given → Stands original history k (getD given k nothing .bytes) (getD given k nothing .given)
+  pub taken : (k : ℕ) → k < length given → getD given k nothing .line ≡ []
+
+-- Of two moments: what was committed at the earlier one stands at the later one, and the bytes from the header up to the earlier
+-- committed end are unchanged. The whole check accepts the history, and an open session shows what was written.
+pub record Kept (original : List ℕ) (p : ℕ) (given : List Revision) (earlier later : Moment) : Type 0 where
+  pub counted : settingOf (earlier .history) .count + 1 ≡ length (revisionsOf p given (earlier .log))
+  pub stands : (k : ℕ) → k < length (revisionsOf p given (earlier .log))
+      → let v = getD (revisionsOf p given (earlier .log)) k nothing in Stands original (later .history) k (v .bytes) (indexAfresh p v)
   pub unchanged : part (later .history) headerWidth (committedEnd (settingOf (earlier .history)) - headerWidth)
       ≡ part (earlier .history) headerWidth (committedEnd (settingOf (earlier .history)) - headerWidth)
+  pub checked : check (later .history) ≡ fault 0 0 0
+  pub shows : later .held ≡ true → Shows original later (getD (revisionsOf p given (later .log)) (later .noted .parent) nothing)
 
--- From a freshly created history, after any calls, and after any calls more.
--- Stands for itself: it is stated, and not proved yet.
-pub Demand3 : Type 0
-Demand3 =
-    (original buffer : List ℕ) (page : ℕ) (branching : Bool) (calls more : List Call)
-    → create buffer (length original) page branching .number ≡ 0
-    → Kept original page
-    (after original calls (fresh (create buffer (length original) page branching .bytes)))
-    (after original more (after original calls (fresh (create buffer (length original) page branching .bytes))))
+-- From a history that is given, after any calls, and after any calls more.
+abbrev pub FromGiven : Type 0
+FromGiven = (original : List ℕ) (p : ℕ) (history : List ℕ) (given : List Revision) (calls more : List Call) → Given original p history given
+    → Kept original p given (after original calls (fresh history)) (after original more (after original calls (fresh history)))
+
+-- What a creation is told, the history that it leaves, and that no revision but the original stands in it.
+pub record Creation : Type 0 where
+  pub original : List ℕ
+  pub buffer : List ℕ
+  pub page : ℕ
+  pub branching : Bool
+
+abbrev pub creates : Creation → Reply
+creates c = create (c .buffer) (length (c .original)) (c .page) (c .branching)
+
+abbrev pub originalAlone : Creation → List Revision
+originalAlone c = record { bytes = c .original; line = []; given = [] } ∷ []
+
+-- From a freshly created history.
+abbrev pub Demand3 : Type 0
+Demand3 = (c : Creation) (calls more : List Call) → creates c .number ≡ 0
+    → let first = after (c .original) calls (fresh (creates c .bytes)) in
+    Kept (c .original) (c .page) (originalAlone c) first (after (c .original) more first)

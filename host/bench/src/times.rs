@@ -19,6 +19,7 @@ pub fn print() {
     println!("| Job | Proved | Twin | Ratio |");
     println!("|---|---|---|---|");
     whole_sessions();
+    write_and_commit_apart();
     one_byte_write();
     reads();
     look_ups();
@@ -88,6 +89,45 @@ fn whole_sessions() {
         );
         line(&name, proved, twin);
     }
+}
+
+/// The two halves of a session of 256 pages, each for itself. The header alone is put back behind a commit.
+fn write_and_commit_apart() {
+    const PAGE: usize = 16;
+    let length = 256 * PAGE;
+    let mut store = histories::new(PAGE as u64, length, 2 * length + 100_000);
+    let data = Random::seeded(&[2]).bytes(length);
+    let size = store.original.len() as u64;
+    accepted(proved::create(&mut store.history, size, PAGE as u64, false));
+    let session = store.open();
+    let (mut ours, mut theirs) = (store.clone(), store);
+    let [proved, twin] = best([
+        &mut || {
+            let Store { original, history } = &mut ours;
+            accepted(proved::write(session, original, history, 0, &data).number);
+        },
+        &mut || {
+            let Store { original, history } = &mut theirs;
+            accepted(twin::write(session, original, history, 0, &data).number);
+        },
+    ]);
+    line("write of 256 pages into a new session, p = 16", proved, twin);
+
+    let written = proved::write(session, &ours.original, &mut ours.history, 0, &data).session;
+    theirs = ours.clone();
+    let open = ours.history[..40].to_vec();
+    let [proved, twin] = best([
+        &mut || {
+            ours.history[..40].copy_from_slice(&open);
+            accepted(proved::commit(written, &mut ours.history, TIME, 7, b"ana\0", b"\0").number);
+        },
+        &mut || {
+            theirs.history[..40].copy_from_slice(&open);
+            accepted(twin::commit(written, &mut theirs.history, TIME, 7, b"ana\0", b"\0").number);
+        },
+    ]);
+    assert!(ours.history == theirs.history);
+    line("commit of these 256 pages, p = 16", proved, twin);
 }
 
 /// A first touch each time: the session that the write hands back is not used again.
