@@ -12,9 +12,9 @@ use Rattle.rules.specs.declared.Record.{Record}
 use Rattle.rules.specs.declared.Browsed.{Browsed}
 use Rattle.rules.proofs.Places.{end-behind}
 use Rattle.rules.proofs.Rows.{row-clear, then-clear, left-alone}
+use Rattle.rules.proofs.Records.{rows-pass}
 use Rattle.whole.proofs.Sound.{sound}
 use Rattle.records.specs.Sound.{Standing}
-use Rattle.records.proofs.Fields.{right-facts}
 
 -- ---- The place
 
@@ -32,11 +32,11 @@ module _ (h : List ℕ) (revision : ℕ) {number : ℕ} (e : number ≡ browseRo
 
 -- The record ends within the history.
 record-ends : (h : List ℕ) (s : Setting) (k : ℕ) → s .address ≤ length h → recordRows h s k ≡ 0 → recordOf h s k .address + recordOf h s k .size ≤ length h
-unfolding recordRows recordOf
+unfolding recordOf
 record-ends h s zero l z = omega arith
 record-ends h s (suc k) l z =
     let r = recordOf h s (suc k) in
-    let f = right-facts h s (suc k) r (row-clear 7 _ (omega arith) (then-clear _ _ z .0)) .0 in
+    let f = rows-pass h s k z .0 .lies in
     omega (arith, f .ends, end-behind (s .form) (r .address) (r .size))
 
 -- What passes its rows has a whole history, ahead of which the record lies.

@@ -41,14 +41,14 @@ use Rattle.rules.proofs.Bytes.{length-laid, part-laid-below, byte-laid-below, l
 use Rattle.rules.proofs.Places.{end-behind, entry-least, entries-product}
 use Rattle.rules.proofs.Range.{page-lies}
 use Rattle.rules.proofs.Entries.{entries-laid, length-indexBytes, length-merged, sums-laid}
+use Rattle.rules.proofs.RoundTrips.{record-front-long, length-recordBytes}
 use Rattle.layout.specs.Paged.{farthest}
-use Rattle.parts.proofs.Laid.{summed-laid, length-summed}
+use Rattle.parts.proofs.Laid.{summed-laid}
 use Rattle.whole.specs.Sound.{Sound}
 use Rattle.whole.specs.Places.{Locked, Extensible}
 use Rattle.records.specs.Sound.{SoundRecord, indexIn}
 use Rattle.records.proofs.Fields.{index-there}
 use Rattle.records.proofs.Stands.{index-rising}
-use Rattle.records.proofs.Front.{length-front}
 use Rattle.merge.specs.Merge.{Mergeable}
 use Rattle.committing.specs.Stored.{Standing, Committable, textsStored}
 
@@ -107,7 +107,7 @@ module _ {h : List ℕ} {s : Setting} {st : State} {parent r : Record} (q : Stan
     merged = mergedIndex h s st (indexOf h (s .form) parent)
 
     wide : length front ≡ frontWidth (s .form)
-    wide = length-front (s .form) r time sixteen user
+    wide = record-front-long (s .form) r time user sixteen
 
     fits : r .address + length front ≤ length h
     fits = omega (arith, wide, size-is, stored-room)
@@ -185,11 +185,10 @@ module _ {h : List ℕ} {s : Setting} {st : State} {parent r : Record} {time nam
   count-merged = length-merged h s st (indexOf h (s .form) parent) ∙ sym (entries-is q)
 
   start-long : r .address + length start ≡ nameAt (s .form) r
-  start-long = simp (length-append, length-front (s .form) r time (c .timed) user, length-indexBytes (s .form) index, count-merged) (omega arith)
+  start-long = simp (length-append, record-front-long (s .form) r time user (c .timed), length-indexBytes (s .form) index, count-merged) (omega arith)
 
   stored-long : length stored ≡ r .size
-  unfolding recordBytes
-  stored-long = length-summed _ ∙ simp length-append (omega (arith, start-long, length-append (frontBytes (s .form) r time user) (indexBytes (s .form) index), size-is q, c .named, c .commented))
+  stored-long = length-recordBytes (s .form) r time user index name comment (c .timed) ∙ rw (count-merged, ← c .named, ← c .commented) (sym (size-is q))
 
   whole-fits : r .address + length stored ≤ length h
   whole-fits = omega (arith, stored-long, stored-room q)

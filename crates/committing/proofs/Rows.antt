@@ -6,7 +6,7 @@ use Prim.Native.Nat.{ℕ, _+_, _≤_, _<_}
 use native.Mathlib.Omega.{arith}
 use lib.Dec.{leb, ltb}
 use lib.ListN.{length, length-take}
-use borrow.Author.Tests.{lt-ltb, le-ltb, leb-true, ltb-false, eqb-true, not-false}
+use borrow.Author.Tests.{lt-ltb, le-ltb, leb-true, ltb-false, not-false}
 use Rattle.rules.specs.Layout.{
   limit,
   revisionLimit,
@@ -19,7 +19,6 @@ use Rattle.rules.specs.Layout.{
   committedEnd,
   entriesIn,
   indexOf,
-  timeRight,
   textRight,
 }
 use Rattle.rules.specs.Orders.{Rising}
@@ -35,6 +34,7 @@ use Rattle.rules.specs.declared.State.{State}
 use Rattle.rules.proofs.Places.{end-near, count-most, entries-most}
 use Rattle.rules.proofs.Rows.{both, rows-hold, rows-past, row-holds, row-past, last-holds, last-past}
 use Rattle.rules.proofs.Entries.{length-merged}
+use Rattle.rules.proofs.Commits.{time-long}
 use Rattle.layout.specs.Paged.{Paged, farthest}
 use Rattle.records.specs.Sound.{indexIn}
 use Rattle.records.proofs.Fields.{index-there}
@@ -65,20 +65,11 @@ many-is st index l e =
     rw (le-ltb touchLimit (length (ownPages st)) f, e)
 
 texts-fit : (time name comment : List ℕ) → textsWrong time name comment ≡ false → (length time ≡ 16) × (length name ≤ nameLimit) × (length comment ≤ commentLimit)
-unfolding textsWrong timeRight
+unfolding textsWrong
 texts-fit time name comment e =
     let a = both _ _ (not-false _ e) in
     let b = both _ _ (a .0) in
-    let t1 = both _ _ (b .0) in
-    let t2 = both _ _ (t1 .0) in
-    let t3 = both _ _ (t2 .0) in
-    let t4 = both _ _ (t3 .0) in
-    let t5 = both _ _ (t4 .0) in
-    let t6 = both _ _ (t5 .0) in
-    let t7 = both _ _ (t6 .0) in
-    let t8 = both _ _ (t7 .0) in
-    let t9 = both _ _ (t8 .0) in
-    (eqb-true _ _ (t9 .0), leb-true _ _ (both (textRight name) (leb (length name) nameLimit) (b .1) .1), leb-true _ _ (both (textRight comment) (leb (length comment) commentLimit) (a .1) .1))
+    (time-long time (b .0), leb-true _ _ (both (textRight name) (leb (length name) nameLimit) (b .1) .1), leb-true _ _ (both (textRight comment) (leb (length comment) commentLimit) (a .1) .1))
 
 -- The record to be stored is small, and stands within the limit.
 pub stored-small : {h : List ℕ} {s : Setting} {st : State} {parent : Record} (k name comment : ℕ) {r : Record} → SoundSession h s st parent → Small s st k name comment

@@ -1,12 +1,12 @@
 -- The header's rows and its bytes, as the code goes through them.
 use mathlib.Core.Path.{_≡_, refl, _∙_}
-use mathlib.Core.Bool.{Bool, true, false, not, cond, _&&_, _||_, true≢false}
+use mathlib.Core.Bool.{Bool, false, not, cond, _&&_}
 use mathlib.Core.List.{List, _∷_}
 use Prim.Native.Nat.{ℕ, _+_, _*_, _-_, _/_, _%_, _≤_, _<_}
 use native.Mathlib.Omega.{arith}
 use lib.Dec.{eqb, leb, ltb}
-use lib.ListN.{length, length-append}
-use borrow.Author.Tests.{lt-leb, le-leb, ltb-false}
+use lib.ListN.{length}
+use borrow.Author.Tests.{lt-leb, le-leb}
 use Rattle.rules.specs.Bytes.{byteAt, part, numberAt, numberBytes, laid, same}
 use Rattle.rules.specs.Checksum.{checksum}
 use Rattle.rules.specs.Layout.{
@@ -24,12 +24,13 @@ use Rattle.rules.specs.Layout.{
   formOf,
   settingWith,
 }
-use Rattle.rules.specs.Rows.{lengthWrong, headerWrong}
+use Rattle.rules.specs.Rows.{headerWrong}
 use Rattle.rules.specs.declared.Form.{Form}
 use Rattle.rules.specs.declared.Setting.{Setting}
 use Rattle.rules.proofs.Bytes.{laid-then, laid-whole}
 use Rattle.rules.proofs.Places.{length-addressBytes}
-use Rattle.parts.proofs.Laid.{summed-laid, length-summed}
+use Rattle.rules.proofs.RoundTrips.{length-summed, front-long}
+use Rattle.parts.proofs.Laid.{summed-laid}
 
 pub page-small : (p : ℕ) → p < 16 → false ≡ pageAllowed p
 unfolding pageAllowed
@@ -38,16 +39,6 @@ page-small p h = rw (lt-leb 16 p h)
 pub page-large : (p : ℕ) → 16 ≤ p → eqb (4096 % p) 0 ≡ pageAllowed p
 unfolding pageAllowed
 page-large p h = rw (le-leb 16 p h)
-
--- What row 1 leaves.
-pub length-right : (least n : ℕ) → lengthWrong least n ≡ false → (least ≤ n) × (n ≤ limit)
-unfolding lengthWrong
-length-right least n e = go (ltb n least) (ltb limit n) refl refl e
-  where
-    go : (a b : Bool) → ltb n least ≡ a → ltb limit n ≡ b → a || b ≡ false → (least ≤ n) × (n ≤ limit)
-    go true b p q e = absurd (true≢false e)
-    go false true p q e = absurd (true≢false e)
-    go false false p q e = (ltb-false n least p, ltb-false limit n q)
 
 -- What row 2 asks, found part after part.
 pub header-parts : (h : List ℕ) {signed flagged allowed : Bool} {f : Form} {versioned original : ℕ} → signed ≡ same (part h 0 4) headerSignature
@@ -92,14 +83,10 @@ front-stores x0 x1 x2 x3 x4 x5 x6 s {flags} {v} h e o small p1 p2 p3 p4 p5 p6 =
     let r5 = laid-then x0 x4 x5 _ (addressBytes (s .form) (s .address)) 0 20 r4 p5 refl (omega arith) in
     laid-then x0 x5 x6 _ (numberBytes 8 (s .size)) 0 28 r5 p6 (simp length-addressBytes) (omega arith)
 
-front-length : (s : Setting) → length (headerFront s) ≡ headerWidth - 4
-unfolding headerFront numberBytes
-front-length s = simp (length-append, length-addressBytes)
-
 -- The front and the checksum behind it fill a buffer of the header's width.
 pub header-stores : (x0 x1 x2 : List ℕ) (s : Setting) → length x0 ≡ headerWidth → x1 ≡ laid x0 0 (headerFront s)
     → x2 ≡ laid x1 (headerWidth - 4) (numberBytes 4 (checksum (part x1 0 (headerWidth - 4)))) → x2 ≡ headerBytes s
 unfolding headerBytes
 header-stores x0 x1 x2 s h p q =
-    let l = front-length s in
+    let l = front-long s in
     summed-laid x0 x1 x2 (headerFront s) 0 (headerWidth - 4) p (omega arith) (omega arith) q ∙ laid-whole x0 (summed (headerFront s)) (length-summed (headerFront s) ∙ omega arith)

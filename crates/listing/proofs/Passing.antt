@@ -1,24 +1,24 @@
 -- The list program's rows, as the code goes through them.
 use mathlib.Core.Path.{_≡_, refl, sym, ap, _∙_}
-use mathlib.Core.Bool.{true, false, _&&_, or-true, or-false, false≢true}
+use mathlib.Core.Bool.{true, or-true, or-false, false≢true}
 use mathlib.Core.List.{List}
 use Prim.Native.Nat.{ℕ, zero, suc, _+_, _-_, _≤_, _<_}
 use native.Mathlib.Numerals.{add-one}
 use native.Mathlib.Omega.{arith}
 use lib.ListN.{length}
-use borrow.Author.Tests.{lt-ltb, le-ltb, not-false}
-use Rattle.rules.specs.Layout.{headerWidth, settingOf, recordOf, indexOf, nameOf, commentOf, textRight}
-use Rattle.rules.specs.Rows.{lengthWrong, recordLies, recordFields, recordWrong, entriesRight}
+use borrow.Author.Tests.{lt-ltb, le-ltb}
+use Rattle.rules.specs.Layout.{headerWidth, settingOf, recordOf, nameOf, textRight}
+use Rattle.rules.specs.Rows.{lengthWrong}
 use Rattle.rules.specs.Calls.{_then_, headerRows, historyRows, recordRows, recordsRows}
 use Rattle.rules.specs.Listing.{listLimit, listRows}
 use Rattle.rules.specs.declared.Form.{Form}
 use Rattle.rules.specs.declared.Setting.{Setting}
 use Rattle.rules.specs.declared.Record.{Record}
 use Rattle.rules.proofs.Places.{end-behind}
-use Rattle.rules.proofs.Rows.{then-assoc, row-holds, rows-hold, rows-past, row-clear, then-clear, both}
+use Rattle.rules.proofs.Rows.{then-assoc, row-holds, rows-hold, rows-past, then-clear}
+use Rattle.rules.proofs.Records.{RecordRight, rows-pass}
 use Rattle.whole.specs.Sound.{Sound}
 use Rattle.records.specs.Sound.{Standing}
-use Rattle.records.proofs.Fields.{right-facts}
 use Rattle.listing.specs.Written.{Shown}
 
 -- ---- The first rows
@@ -87,14 +87,11 @@ named h f r e = go (r .name) refl
     go zero q = absurd (false≢true (rw q at e))
     go (suc n) q = omega arith
 
-right-shown : (h : List ℕ) (s : Setting) (k : ℕ) (r : Record) → Sound h s → recordWrong h s k r ≡ false → Shown h (s .form) r
-unfolding recordWrong
+right-shown : (h : List ℕ) (s : Setting) (k : ℕ) (r : Record) → Sound h s → RecordRight h s k r → Shown h (s .form) r
 right-shown h s k r w e =
-    let f = right-facts h s k r e .0 in
-    let a = both _ (textRight (commentOf h (s .form) r)) (not-false _ e) .0 in
-    let b = both (recordLies s r && recordFields h s k r && entriesRight s r 0 (indexOf h (s .form) r)) (textRight (nameOf h (s .form) r)) a in
+    let f = e .lies in
     record {
-      named = named h (s .form) r (b .1);
+      named = named h (s .form) r (e .named);
       few = f .named;
       indexed = f .few;
       inside = omega (arith, f .ends, f .sized, end-behind (s .form) (r .address) (r .size), w .inside);
@@ -102,7 +99,6 @@ right-shown h s k r w e =
     }
 
 pub record-shown : (h : List ℕ) (s : Setting) (k : ℕ) {r : Record} → 0 < k → recordRows h s k ≡ 0 → Standing h s k r → Shown h (s .form) r
-unfolding recordRows
 record-shown h s zero l z w = absurd (omega arith)
 record-shown h s (suc k) l z w =
-    rw (w .found) (right-shown h s (suc k) (recordOf h s (suc k)) (w .sound) (row-clear 7 _ (omega arith) (then-clear _ _ z .0)))
+    rw (w .found) (right-shown h s (suc k) (recordOf h s (suc k)) (w .sound) (rows-pass h s k z .0))

@@ -1,14 +1,14 @@
 -- A page size that is allowed is a power of two, as a test of each number up to 4,096 shows; less one, it masks what a division leaves.
 use mathlib.Core.Path.{_≡_, refl}
 use mathlib.Core.Bool.{Bool, true, false, not, cond, _&&_, _||_}
-use Prim.Native.Nat.{ℕ, zero, suc, _-_, _/_, _%_, _^_, _≤_, _<_}
-use native.Mathlib.Nat.{mod-eq-of-lt}
+use Prim.Native.Nat.{ℕ, zero, suc, _-_, _/_, _%_, _^_, _<_}
 use native.Mathlib.Omega.{arith}
 use lib.Bits.{bitAnd, and-mask}
 use lib.Dec.{leb, ltb, eqb}
-use borrow.Author.Tests.{leb-true, leb-false, ltb-true, ltb-false, eqb-true}
+use borrow.Author.Tests.{ltb-true, ltb-false, eqb-true}
 use Rattle.rules.specs.Layout.{pageAllowed}
 use Rattle.rules.proofs.Rows.{both}
+use Rattle.rules.proofs.Headers.{page-most}
 
 -- How often a number can be halved before it is zero, less one; at most so often.
 halvings : ℕ → ℕ → ℕ
@@ -36,29 +36,15 @@ tested : every 4097 ≡ true
 unfolding every power halvings
 tested = refl
 
-at-most : (p : ℕ) → 4096 % p ≡ 0 → p ≤ 4096
-at-most p z = go (leb p 4096) refl
-  where
-    go : (b : Bool) → leb p 4096 ≡ b → p ≤ 4096
-    go true f = leb-true p 4096 f
-    go false f = absurd (omega (arith, mod-eq-of-lt (leb-false p 4096 f)))
-
 module _ (p : ℕ) (allowed : pageAllowed p ≡ true) where
-  pub page-least : 16 ≤ p
-  unfolding pageAllowed
-  page-least = leb-true 16 p (both (leb 16 p) (eqb (4096 % p) 0) allowed .0)
-
   divides : eqb (4096 % p) 0 ≡ true
   unfolding pageAllowed
   divides = both (leb 16 p) (eqb (4096 % p) 0) allowed .1
 
-  pub page-most : p ≤ 4096
-  page-most = at-most p (eqb-true (4096 % p) 0 divides)
-
   page-power : p ≡ 2 ^ halvings 12 p
   unfolding power
   page-power =
-      let h = page-most in
+      let h = page-most p allowed in
       eqb-true p (2 ^ halvings 12 p) (rw divides at (every-power 4097 tested p (omega arith)))
 
   pub page-mask : (x : ℕ) → bitAnd x (p - 1) ≡ x % p

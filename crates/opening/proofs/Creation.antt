@@ -15,16 +15,16 @@ use Rattle.rules.specs.Calls.{createRows, create}
 use Rattle.rules.specs.declared.Setting.{Setting}
 use Rattle.rules.proofs.Places.{end-behind}
 use Rattle.rules.proofs.Rows.{both, left-alone}
-use Rattle.numbers.proofs.Page.{page-least, page-most}
-use Rattle.header.proofs.Fields.{length-right}
+use Rattle.rules.proofs.Headers.{length-right}
 use Rattle.layout.specs.Paged.{Paged}
+use Rattle.whole.proofs.Sound.{allowed-paged}
 
 -- What row 17 leaves: a page size that is allowed.
 pub created-paged : (original page : ℕ) → creationWrong original page ≡ false → Paged (createdForm page)
 unfolding creationWrong
 created-paged original page e =
     let allowed = both (pageAllowed page) (leb original limit) (not-false _ e) .0 in
-    record { least = page-least page allowed; most = page-most page allowed }
+    allowed-paged (createdForm page) allowed
 
 -- What row 1 leaves: room for the header and the empty whole history.
 pub created-room : (page n : ℕ) {least : ℕ} → least ≡ emptyEnd (createdForm page) → lengthWrong least n ≡ false

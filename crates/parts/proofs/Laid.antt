@@ -8,7 +8,7 @@ use Rattle.rules.specs.Bytes.{part, numberBytes, laid}
 use Rattle.rules.specs.Checksum.{checksum}
 use Rattle.rules.specs.Layout.{versionBytes, startBytes, summed}
 use Rattle.rules.specs.declared.Form.{Form}
-use Rattle.rules.proofs.Bytes.{length-numberBytes, part-laid, laid-then}
+use Rattle.rules.proofs.Bytes.{part-laid, laid-then}
 
 pub start-laid : (f : Form) (x0 x1 x2 x3 signature : List ℕ) (at number : ℕ) → length signature ≡ 4 → at + 16 ≤ length x0
     → x1 ≡ laid x0 at signature → x2 ≡ laid x1 (at + 4) (versionBytes f) → x3 ≡ laid x2 (at + 8) (numberBytes 8 number)
@@ -17,14 +17,6 @@ unfolding startBytes
 start-laid f x0 x1 x2 x3 signature at number wide room p1 p2 p3 =
     let r2 = laid-then x0 x1 x2 signature (versionBytes f) at (at + 4) p1 p2 (rw wide) (omega arith) in
     laid-then x0 x2 x3 _ (numberBytes 8 number) at (at + 8) r2 p3 (simp (length-append, wide)) (omega arith)
-
-pub length-start : (f : Form) (signature : List ℕ) (number : ℕ) → length signature ≡ 4 → length (startBytes f signature number) ≡ 16
-unfolding startBytes
-length-start f signature number wide = simp (length-append, length-numberBytes, wide)
-
-pub length-summed : (bytes : List ℕ) → length (summed bytes) ≡ length bytes + 4
-unfolding summed
-length-summed bytes = simp (length-append, length-numberBytes)
 
 -- The checksum that is stored behind a part, of the part that stands there by then.
 pub summed-laid : (x0 x1 x2 bytes : List ℕ) (at end : ℕ) → x1 ≡ laid x0 at bytes → at + length bytes ≡ end → end ≤ length x0

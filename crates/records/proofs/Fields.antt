@@ -7,7 +7,7 @@ use native.Mathlib.Nat.{add-assoc}
 use native.Mathlib.Omega.{arith}
 use lib.Dec.{leb, ltb, eqb}
 use lib.ListN.{take, drop}
-use borrow.Author.Tests.{le-leb, ne-eqb, leb-true, eqb-true, not-false}
+use borrow.Author.Tests.{le-leb, ne-eqb, eqb-true, not-false}
 use Rattle.rules.specs.Bytes.{part, numberAt, same}
 use Rattle.rules.specs.Layout.{
   limit,
@@ -32,14 +32,12 @@ use Rattle.rules.specs.Layout.{
   entriesIn,
   recordSize,
   recordAt,
-  timeOf,
   indexOf,
   nameAt,
   nameOf,
   commentOf,
   noRecord,
   recordOf,
-  within,
   timeRight,
   textRight,
 }
@@ -50,6 +48,7 @@ use Rattle.rules.specs.declared.Setting.{Setting}
 use Rattle.rules.specs.declared.Record.{Record}
 use Rattle.rules.proofs.Places.{end-behind, entries-none}
 use Rattle.rules.proofs.Rows.{both, row-clear, then-clear, must-hold, row-holds}
+use Rattle.rules.proofs.Records.{LiesFacts, lies-facts, record-right, fields-logical}
 use Rattle.whole.specs.Sound.{Sound}
 use Rattle.records.specs.Sound.{SoundRecord, indexIn}
 
@@ -70,34 +69,9 @@ pub cannot-hold : (b : Bool) → (b ≡ true → ⊥) → false ≡ b
 cannot-hold true h = absurd (h refl)
 cannot-hold false h = refl
 
-pub record LiesFacts (s : Setting) (r : Record) : Type 0 where
-  pub behind : emptyEnd (s .form) ≤ r .address
-  pub ends : endOf (s .form) (r .address) (r .size) ≤ s .address
-  pub sized : r .size ≡ recordSize (s .form) (r .entries) (r .name) (r .comment)
-  pub few : r .entries ≤ entryLimit
-  pub named : r .name ≤ nameLimit
-  pub commented : r .comment ≤ commentLimit
-
 module _ (s : Setting) (r : Record) where
-  pub lies-facts : recordLies s r ≡ true → LiesFacts s r
-  unfolding recordLies
-  lies-facts t =
-      let a5 = both _ _ t in
-      let a4 = both _ _ (a5 .0) in
-      let a3 = both _ _ (a4 .0) in
-      let a2 = both _ _ (a3 .0) in
-      let a1 = both _ _ (a2 .0) in
-      record {
-        behind = leb-true _ _ (a1 .0);
-        ends = leb-true _ _ (a1 .1);
-        sized = eqb-true _ _ (a2 .1);
-        few = leb-true _ _ (a3 .1);
-        named = leb-true _ _ (a4 .1);
-        commented = leb-true _ _ (a5 .1);
-      }
-
   pub lies-fault : (LiesFacts s r → ⊥) → false ≡ recordLies s r
-  lies-fault f = cannot-hold _ (λ e. f (lies-facts e))
+  lies-fault f = cannot-hold _ (λ e. f (lies-facts s r e))
 
   -- A record that reaches past the whole history's start does not lie.
   pub lies-far : (r .address + r .size ≤ s .address → ⊥) → false ≡ recordLies s r
@@ -119,15 +93,6 @@ pub fields-parts : (h : List ℕ) (s : Setting) (k : ℕ) (r : Record) {started 
     ≡ recordFields h s k r
 unfolding recordFields
 fields-parts h s k r a c = let e : r .address + 24 + 16 - (r .address + 24) ≡ 16 = omega arith in rw (a, c, e)
-
-pub fields-logical : (h : List ℕ) (s : Setting) (k : ℕ) (r : Record) → recordFields h s k r ≡ true → (s .original ≤ r .logical) × (r .logical ≤ limit)
-unfolding recordFields
-fields-logical h s k r t =
-    let started = same (part h (r .address) 4) recordSignature && same (part h (r .address + 4) 4) (versionBytes (s .form)) in
-    let front = started && eqb (r .revision) k && ltb (r .parent) k && timeRight (timeOf h r) in
-    let a = both (front && within (s .original) limit (r .logical)) (eqb (r .page) (s .form .page)) t in
-    let b = both (leb (s .original) (r .logical)) (leb (r .logical) limit) (both front (within (s .original) limit (r .logical)) (a .0) .1) in
-    (leb-true _ _ (b .0), leb-true _ _ (b .1))
 
 -- ---- Name and comment
 
@@ -159,16 +124,6 @@ module _ (h : List ℕ) (s : Setting) (k : ℕ) (r : Record) where
       → t ≡ textRight (nameOf h (s .form) r) && textRight (commentOf h (s .form) r) → not t ≡ recordWrong h s k r
   unfolding recordWrong
   wrong-texts a b c d = rw (a, b, c, d)
-
-  -- What a record that row 7 passes has.
-  pub right-facts : recordWrong h s k r ≡ false → LiesFacts s r × (recordFields h s k r ≡ true) × (entriesRight s r 0 (indexOf h (s .form) r) ≡ true)
-  unfolding recordWrong
-  right-facts e =
-      let a = both (recordLies s r && recordFields h s k r && entriesRight s r 0 (indexOf h (s .form) r) && textRight (nameOf h (s .form) r)) (textRight (commentOf h (s .form) r)) (not-false _ e) in
-      let b = both (recordLies s r && recordFields h s k r && entriesRight s r 0 (indexOf h (s .form) r)) (textRight (nameOf h (s .form) r)) (a .0) in
-      let c = both (recordLies s r && recordFields h s k r) (entriesRight s r 0 (indexOf h (s .form) r)) (b .0) in
-      let d = both (recordLies s r) (recordFields h s k r) (c .0) in
-      (lies-facts s r (d .0), d .1, c .1)
 
 -- ---- Row 8
 
@@ -226,7 +181,7 @@ none-sound h s w e =
 -- A record whose rows have passed.
 module _ (h : List ℕ) (s : Setting) (k : ℕ) (r : Record) (wrong : recordWrong h s k r ≡ false) (sums : recordSumWrong h (s .form) r ≡ false) where
   facts : LiesFacts s r
-  facts = right-facts h s k r wrong .0
+  facts = record-right h s k r wrong .lies
 
   ahead : r .address + r .size ≤ s .address
   ahead = omega (arith, facts .ends, end-behind (s .form) (r .address) (r .size))
@@ -234,15 +189,15 @@ module _ (h : List ℕ) (s : Setting) (k : ℕ) (r : Record) (wrong : recordWron
   pub right-sound : SoundRecord h s r
   unfolding indexIn sumsStand
   right-sound =
-      let w = right-facts h s k r wrong in
-      let g = fields-logical h s k r (w .1) in
+      let w = record-right h s k r wrong in
+      let g = fields-logical h s k r (w .fields) in
       record {
         few = facts .few;
         grown = g .0;
         small = g .1;
         below = omega (arith, ahead);
         inside = place (eqb (r .entries) 0) refl;
-        right = w .2;
+        right = w .entries;
         summed = stand (eqb (r .entries) 0) refl;
       }
     where
@@ -284,7 +239,7 @@ module _ (h : List ℕ) (s : Setting) (k : ℕ) {at size : ℕ} (l : 0 < k) (ea 
       let r = recordAt (s .form) h at size in
       let far : LiesFacts s r → ⊥ = λ w. f (omega (arith, w .sized)) (omega (arith, w .ends, end-behind (s .form) at size)) in
       rw (rows-are h s k l, ← record-is h s k l ea ez)
-      (row-holds 7 _ (omega arith) (must-hold (recordWrong h s k r) (λ e. far (right-facts h s k r e .0))) refl)
+      (row-holds 7 _ (omega arith) (must-hold (recordWrong h s k r) (λ e. far (record-right h s k r e .lies))) refl)
 
   module _ {r : Record} (er : r ≡ recordAt (s .form) h at size) where
     pub is-record : r ≡ recordOf h s k

@@ -10,7 +10,7 @@ use Rattle.rules.specs.declared.Form.{Form}
 use Rattle.rules.specs.declared.Record.{Record}
 use Rattle.rules.proofs.Bytes.{length-numberBytes, laid-then}
 use Rattle.rules.proofs.Places.{count-least, length-userBytes}
-use Rattle.parts.proofs.Laid.{length-start}
+use Rattle.rules.proofs.RoundTrips.{length-start}
 use Rattle.records.specs.Front.{descentBytes}
 
 module _ (f : Form) (r : Record) (time : List ℕ) where
@@ -44,7 +44,3 @@ module _ (f : Form) (r : Record) (time : List ℕ) where
         let r5 = laid-then x0 x4 x5 _ _ at sizes r4 p5 (simp (length-append, length-numberBytes, wide, sixteen) (omega arith)) (omega arith) in
         let r6 = laid-then x0 x5 x6 _ _ at (sizes + 8) r5 p6 (simp (length-append, length-numberBytes, wide, sixteen) (omega arith)) (omega arith) in
         laid-then x0 x6 x7 _ _ at (sizes + 12) r6 p7 (simp (length-append, length-numberBytes, wide, sixteen) (omega arith)) (omega arith)
-
-    pub length-front : (user : ℕ) → length (frontBytes f r time user) ≡ frontWidth f
-    unfolding frontBytes
-    length-front user = simp (length-append, length-numberBytes, length-start f recordSignature (r .revision) refl, sixteen) (omega (arith, length-userBytes f user))

@@ -1,31 +1,18 @@
 -- What row 6 leaves.
-use mathlib.Core.Path.{_≡_, refl}
-use mathlib.Core.Bool.{Bool, true, false, not, cond, _&&_, true≢false}
+use mathlib.Core.Path.{_≡_}
+use mathlib.Core.Bool.{false}
 use mathlib.Core.List.{List}
 use Prim.Native.Nat.{ℕ, _≤_}
-use native.Mathlib.Omega.{arith}
-use lib.Dec.{ltb, eqb}
-use borrow.Author.Tests.{ltb-false}
-use Rattle.rules.specs.Rows.{newest, revisionUnknown}
+use Rattle.rules.specs.Rows.{revisionUnknown}
 use Rattle.rules.specs.Layout.{settingOf}
 use Rattle.rules.specs.Calls.{row, _then_, recordRows, asked}
 use Rattle.rules.specs.declared.Setting.{Setting}
 use Rattle.rules.specs.declared.Record.{Record}
+use Rattle.rules.proofs.Locks.{asked-stands}
 use Rattle.whole.specs.Sound.{Sound}
 use Rattle.records.specs.Sound.{Standing}
 
--- The revision that is meant stands in the history.
-pub asked-stands : (s : Setting) (revision : ℕ) → revisionUnknown s revision ≡ false → asked s revision ≤ s .count
-unfolding revisionUnknown asked
-asked-stands s revision h = go (ltb (s .count) revision) (eqb revision newest) refl refl h
-  where
-    go : (above new : Bool) → ltb (s .count) revision ≡ above → eqb revision newest ≡ new → above && not new ≡ false
-        → cond (eqb revision newest) (s .count) revision ≤ s .count
-    go above true p q e = rw q (omega arith)
-    go true false p q e = absurd (true≢false e)
-    go false false p q e = rw q (ltb-false (s .count) revision p)
-
--- The same of the number that the code made of it.
+-- The revision that is meant, by the number that the code made of it, stands in the history.
 pub asked-is : (s : Setting) (revision : ℕ) {k : ℕ} → k ≡ asked s revision → revisionUnknown s revision ≡ false → k ≤ s .count
 asked-is s revision e h = rw e (asked-stands s revision h)
 

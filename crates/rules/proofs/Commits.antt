@@ -86,7 +86,7 @@ revision-merged original h s st index differ i =
 
 -- ---- A time that is right has sixteen bytes
 
-time-long : (time : List ℕ) → timeRight time ≡ true → length time ≡ 16
+pub time-long : (time : List ℕ) → timeRight time ≡ true → length time ≡ 16
 unfolding timeRight
 time-long time t =
     let a9 = both _ _ t in

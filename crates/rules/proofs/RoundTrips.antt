@@ -108,7 +108,7 @@ unfolding sumStands
 sum-back xs at n sumAt bytes e p = eq-eqb _ _ (number-back 4 xs sumAt (checksum bytes) p (checksum-less bytes) ∙ rw e)
 
 -- The checksum adds four bytes.
-length-summed : (bytes : List ℕ) → length (summed bytes) ≡ length bytes + 4
+pub length-summed : (bytes : List ℕ) → length (summed bytes) ≡ length bytes + 4
 unfolding summed
 length-summed bytes = simp (length-append, length-numberBytes)
 
@@ -207,7 +207,7 @@ flags-back true false = record { bytes = refl; few = refl; locks = refl; branche
 flags-back false true = record { bytes = refl; few = refl; locks = refl; branches = refl }
 flags-back false false = record { bytes = refl; few = refl; locks = refl; branches = refl }
 
-front-long : (s : Setting) → length (headerFront s) ≡ headerWidth - 4
+pub front-long : (s : Setting) → length (headerFront s) ≡ headerWidth - 4
 unfolding headerFront numberBytes
 front-long s = simp (length-append, length-addressBytes)
 
@@ -317,7 +317,7 @@ header-back xs s stands l m fits = (header-rows xs s stands fits l m, setting-ba
 
 -- ---- how whole history and record start
 
-length-start : (f : Form) (signature : List ℕ) (number : ℕ) → length signature ≡ 4 → length (startBytes f signature number) ≡ 16
+pub length-start : (f : Form) (signature : List ℕ) (number : ℕ) → length signature ≡ 4 → length (startBytes f signature number) ≡ 16
 unfolding startBytes
 length-start f signature number wide = simp (length-append, length-numberBytes, wide)
 
@@ -401,7 +401,7 @@ module _ (f : Form) (r : Record) (time : List ℕ) (user : ℕ) (sixteen : lengt
   counts-long : length (sizes ++ userBytes f user) ≡ entryCountAt f
   counts-long = rw (length-append, sizes-long) (length-userBytes f user)
 
-  record-front-long : length (frontBytes f r time user) ≡ frontWidth f
+  pub record-front-long : length (frontBytes f r time user) ≡ frontWidth f
   unfolding frontBytes
   record-front-long = rw (length-append, length-append, length-append, counts-long, length-numberBytes, length-numberBytes, length-numberBytes) (omega arith)
 

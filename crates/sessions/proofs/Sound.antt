@@ -7,7 +7,7 @@ use native.Mathlib.Nat.{mul-le-mul}
 use native.Mathlib.Omega.{arith}
 use lib.Dec.{leb, ltb, eqb}
 use lib.ListN.{length}
-use borrow.Author.Tests.{le-leb, lt-leb, lt-ltb, le-ltb, leb-true, ltb-true, eqb-true, not-true, not-false}
+use borrow.Author.Tests.{le-leb, lt-leb, lt-ltb, le-ltb, leb-true, eqb-true, not-true, not-false}
 use Rattle.rules.specs.Layout.{limit, revisionLimit, touchLimit, settingOf, committedEnd}
 use Rattle.rules.specs.View.{ownPages, ownAddress}
 use Rattle.rules.specs.Rows.{pagesFit, sessionWrong, sizeBelowParent}
@@ -17,6 +17,7 @@ use Rattle.rules.specs.declared.Record.{Record}
 use Rattle.rules.specs.declared.State.{State}
 use Rattle.rules.proofs.Rows.{both}
 use Rattle.rules.proofs.Entries.{page-fits, pages-differ}
+use Rattle.rules.proofs.Sessions.{session-right}
 use Rattle.whole.specs.Sound.{Sound}
 use Rattle.records.specs.Sound.{Standing}
 use Rattle.sessions.specs.Sound.{SoundSession}
@@ -29,37 +30,24 @@ numbersFit end s st =
     && leb (st .n) touchLimit
     && leb (st .size) limit
 
+-- The sum that is judged next goes by these two; it does not wrap.
 pub record NumbersFit (s : Setting) (st : State) : Type 0 where
-  pub locked : s .lock ≡ true
   pub end : st .end ≡ committedEnd s
-  pub count : st .count ≡ s .count
-  pub few : st .count < revisionLimit
-  pub parent : st .parent ≤ st .count
   pub touched : st .n ≤ touchLimit
-  pub small : st .size ≤ limit
 
--- So the sum that is judged next does not wrap.
 pub pages-short : {n p : ℕ} → n ≤ touchLimit → p ≤ 4096 → n * p ≤ touchLimit * 4096
 pages-short h l = mul-le-mul h l
 
 numbers-fit : (s : Setting) (st : State) → numbersFit (committedEnd s) s st ≡ true → NumbersFit s st
 numbers-fit s st t =
-    let a7 = both _ _ t in
-    let a6 = both _ _ (a7 .0) in
-    let a5 = both _ _ (a6 .0) in
-    let a4 = both _ _ (a5 .0) in
-    let a3 = both _ _ (a4 .0) in
-    let a2 = both _ _ (a3 .0) in
-    let a1 = both _ _ (a2 .0) in
-    record {
-      locked = a1 .0;
-      end = eqb-true _ _ (a1 .1);
-      count = eqb-true _ _ (a2 .1);
-      few = ltb-true _ _ (a3 .1);
-      parent = leb-true _ _ (a4 .1);
-      touched = leb-true _ _ (a6 .1);
-      small = leb-true _ _ (a7 .1);
-    }
+    let a7 = both _ (leb (st .size) limit) t in
+    let a6 = both _ (leb (st .n) touchLimit) (a7 .0) in
+    let a5 = both _ (s .branching || eqb (st .parent) (st .count)) (a6 .0) in
+    let a4 = both _ (leb (st .parent) (st .count)) (a5 .0) in
+    let a3 = both _ (ltb (st .count) revisionLimit) (a4 .0) in
+    let a2 = both _ (eqb (st .count) (s .count)) (a3 .0) in
+    let a1 = both (s .lock) (eqb (st .end) (committedEnd s)) (a2 .0) in
+    record { end = eqb-true _ _ (a1 .1); touched = leb-true _ _ (a6 .1) }
 
 module _ (length : ℕ) (s : Setting) (st : State) where
   module _ {end : ℕ} (e : end ≡ committedEnd s) where
@@ -79,15 +67,6 @@ module _ (length : ℕ) (s : Setting) (st : State) where
       unfolding sessionWrong
       wrong-pages l q = rw (← e, not-false (numbersFit end s st) h, le-leb _ _ l, q)
 
-  -- What row 13 leaves.
-  pub right-parts : sessionWrong length s st ≡ false
-      → NumbersFit s st × (ownAddress s st (st .n) ≤ length) × (pagesFit (s .form .page) (st .size) (ownPages st) ≡ true)
-  unfolding sessionWrong
-  right-parts e =
-      let a = both (numbersFit (committedEnd s) s st && leb (ownAddress s st (st .n)) length) _ (not-false _ e) in
-      let b = both (numbersFit (committedEnd s) s st) _ (a .0) in
-      (numbers-fit s st (b .0), leb-true _ _ (b .1), a .1)
-
 -- Its last condition.
 pub below-parent : (st : State) {r p : Record} → r ≡ p → st .size < r .logical → 13 ≡ row 13 (sizeBelowParent st p)
 unfolding row sizeBelowParent
@@ -100,20 +79,20 @@ not-below st {r} e h = rw (← e, le-ltb (st .size) (r .logical) h)
 pub session-sound : (h : List ℕ) (s : Setting) (st : State) {r : Record} → sessionWrong (length h) s st ≡ false → Standing h s (st .parent) r → r .logical ≤ st .size
     → SoundSession h s st r
 session-sound h s st e q g =
-    let w = right-parts (length h) s st e in
-    let fit = page-fits (s .form .page) (st .size) (ownPages st) (w .2) in
+    let w = session-right (length h) s st e in
+    let fit = page-fits (s .form .page) (st .size) (ownPages st) (w .pages) in
     record {
       parent = q;
       grown = g;
-      locked = w .0 .locked;
-      end = w .0 .end;
-      few = omega (arith, w .0 .count, w .0 .few);
-      touched = w .0 .touched;
-      small = w .0 .small;
-      room = w .1;
+      locked = w .locked;
+      end = w .end;
+      few = omega (arith, w .count, w .few);
+      touched = w .touched;
+      small = w .small;
+      room = w .room;
       multiple = λ k l. fit k l .0;
       below = λ k l. fit k l .1;
-      differ = pages-differ (s .form .page) (st .size) (ownPages st) (w .2);
+      differ = pages-differ (s .form .page) (st .size) (ownPages st) (w .pages);
     }
 
 -- ---- The rows of the setting that was read are those of the history's.

@@ -1,54 +1,27 @@
 -- What the rows that have passed tell.
 use mathlib.Core.Path.{_≡_, refl}
-use mathlib.Core.Bool.{Bool, true, false, _&&_}
+use mathlib.Core.Bool.{true, false}
 use mathlib.Core.List.{List}
-use Prim.Native.Nat.{ℕ, _≤_}
+use Prim.Native.Nat.{ℕ}
 use native.Mathlib.Omega.{arith}
-use lib.Dec.{leb, ltb, eqb}
-use lib.ListN.{length}
-use borrow.Author.Tests.{leb-true, not-false}
-use Rattle.rules.specs.Bytes.{byteAt, part, numberAt, same}
-use Rattle.rules.specs.Layout.{pageAllowed, limit, headerSignature, version, headerWidth, formOf, settingWith, settingOf}
-use Rattle.rules.specs.Rows.{headerWrong, wholeWrong}
+use Rattle.rules.specs.Layout.{pageAllowed, formOf, settingWith, settingOf}
+use Rattle.rules.specs.Rows.{wholeWrong}
 use Rattle.rules.specs.Calls.{headerRows}
-use Rattle.rules.proofs.Places.{end-behind}
-use Rattle.rules.proofs.Rows.{both, row-clear, then-clear}
-use Rattle.numbers.proofs.Page.{page-least, page-most}
-use Rattle.header.proofs.Fields.{length-right}
+use Rattle.rules.specs.declared.Form.{Form}
 use Rattle.rules.specs.declared.Setting.{Setting}
+use Rattle.rules.proofs.Places.{end-behind}
+use Rattle.rules.proofs.Headers.{page-least, page-most, header-facts, whole-facts}
 use Rattle.layout.specs.Paged.{Paged}
 use Rattle.whole.specs.Sound.{Sound}
-use Rattle.whole.proofs.Whole.{whole-facts}
 
--- What row 2 asks ahead of the page size.
-abbrev front : List ℕ → Bool
-front h =
-    same (part h 0 4) headerSignature && eqb (byteAt h 4) (version (formOf h)) && ltb (byteAt h 5) 4 && eqb (byteAt h 6) 0
-    && eqb (byteAt h 7) 0
-
--- What rows 1 to 3 leave.
-pub record HeaderFacts (h : List ℕ) : Type 0 where
-  pub front : headerWidth ≤ length h
-  pub short : length h ≤ limit
-  pub allowed : pageAllowed (formOf h .page) ≡ true
-  pub paged : Paged (formOf h)
-  pub original : numberAt 8 h 12 ≤ limit
-
-pub header-facts : (h : List ℕ) → headerRows h ≡ 0 → HeaderFacts h
-unfolding headerRows headerWrong
-header-facts h e =
-    let a = then-clear _ _ e in
-    let b = then-clear _ _ (a .1) in
-    let l = length-right headerWidth (length h) (row-clear 1 _ (omega arith) (a .0)) in
-    let w = both (front h && pageAllowed (numberAt 4 h 8)) (leb (numberAt 8 h 12) limit) (not-false _ (row-clear 2 _ (omega arith) (b .0))) in
-    let allowed = both (front h) (pageAllowed (numberAt 4 h 8)) (w .0) .1 in
-    let p = numberAt 4 h 8 in
-    record { front = l .0; short = l .1; allowed = allowed; paged = record { least = page-least p allowed; most = page-most p allowed }; original = leb-true _ _ (w .1) }
+-- A form whose page size is allowed.
+pub allowed-paged : (f : Form) → pageAllowed (f .page) ≡ true → Paged f
+allowed-paged f allowed = record { least = page-least (f .page) allowed; most = page-most (f .page) allowed }
 
 -- The form of a setting that was read from the header.
 pub front-paged : (h : List ℕ) (n : ℕ) {t : Setting} → t ≡ settingWith h n → headerRows h ≡ 0 → Paged (t .form)
 unfolding settingWith
-front-paged h n e r = rw e (header-facts h r .paged)
+front-paged h n e r = rw e (allowed-paged (formOf h) (header-facts h r .allowed))
 
 -- What row 5 adds to them.
 whole-sound : (h : List ℕ) → headerRows h ≡ 0 → wholeWrong h (settingOf h) ≡ false → Sound h (settingOf h)
@@ -61,7 +34,7 @@ whole-sound h e w =
       front = f .front;
       short = f .short;
       allowed = f .allowed;
-      paged = f .paged;
+      paged = allowed-paged (formOf h) (f .allowed);
       behind = g .behind;
       ends = g .ends;
       inside = omega (arith, g .ends, end-behind (settingOf h .form) (settingOf h .address) (settingOf h .size));

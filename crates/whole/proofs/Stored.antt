@@ -13,7 +13,8 @@ use Rattle.rules.specs.declared.Setting.{Setting}
 use Rattle.rules.specs.declared.Record.{Record}
 use Rattle.rules.proofs.Bytes.{length-numberBytes, length-part, part-laid-below, laid-then}
 use Rattle.rules.proofs.Places.{end-behind, length-addressBytes}
-use Rattle.parts.proofs.Laid.{length-start, length-summed, summed-laid}
+use Rattle.rules.proofs.RoundTrips.{length-locationBytes, length-start}
+use Rattle.parts.proofs.Laid.{summed-laid}
 use Rattle.whole.specs.Places.{Extensible}
 
 pub location-laid : (f : Form) (x0 x1 x2 x3 : List ℕ) (to address size : ℕ) → to + locationWidth ≤ length x0
@@ -25,10 +26,6 @@ location-laid f x0 x1 x2 x3 to address size room p1 p2 p3 =
     let l = length-addressBytes f address in
     let r2 = laid-then x0 x1 x2 (addressBytes f address) (numberBytes 8 size) to (to + 8) p1 p2 (rw l) (omega arith) in
     summed-laid x0 x2 x3 _ to (to + 16) r2 (simp (length-append, length-numberBytes, l)) (omega arith) p3
-
-length-location : (f : Form) (address size : ℕ) → length (locationBytes f address size) ≡ locationWidth
-unfolding locationBytes
-length-location f address size = length-summed _ ∙ simp (length-append, length-numberBytes, length-addressBytes f address)
 
 pub empty-laid : (f : Form) (x0 x1 x2 : List ℕ) (at : ℕ) → at + wholeSize 0 ≤ length x0 → x1 ≡ laid x0 at (startBytes f wholeSignature 0)
     → x2 ≡ laid x1 (at + 16) (numberBytes 4 (checksum (part x1 at (at + 16 - at)))) → x2 ≡ laid x0 at (wholeBytes f 0 [])
@@ -65,7 +62,7 @@ module _ {x0 : List ℕ} {s : Setting} {r : Record} (y : Extensible x0 s r) {at 
   long = simp (length-append, wide, length-part x0 (locationAt s 1) standing (omega (arith, y .ahead, e, room y, behind y)))
 
   longer : length (start ++ (copied ++ added)) ≡ 16 + standing + locationWidth
-  longer = rw (← append-assoc start copied added, length-append) (omega (arith, long, length-location (s .form) (r .address) (r .size)))
+  longer = rw (← append-assoc start copied added, length-append) (omega (arith, long, length-locationBytes (s .form) (r .address) (r .size)))
 
   module _ (p1 : x1 ≡ laid x0 at start) (p2 : x2 ≡ laid x1 (at + 16) (part x1 (s .address + 16) standing)) (p3 : x3 ≡ laid x2 (at + 16 + standing) added) where
     same : part x1 (s .address + 16) standing ≡ copied

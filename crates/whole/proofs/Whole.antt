@@ -2,14 +2,13 @@
 use mathlib.Core.Path.{_≡_, sym, _∙_}
 use mathlib.Core.Bool.{Bool, true, false, not, _&&_, true≢false}
 use mathlib.Core.List.{List}
-use Prim.Native.Nat.{ℕ, _+_, _-_, _≤_}
+use Prim.Native.Nat.{ℕ, _+_, _-_}
 use native.Mathlib.Omega.{arith}
 use lib.Dec.{leb}
 use lib.ListN.{length}
-use borrow.Author.Tests.{le-leb, eq-eqb, ne-eqb, leb-true, eqb-true, not-false}
+use borrow.Author.Tests.{le-leb, eq-eqb, ne-eqb, leb-true}
 use Rattle.rules.specs.Bytes.{part, numberAt, same}
 use Rattle.rules.specs.Layout.{
-  revisionLimit,
   wholeSignature,
   versionBytes,
   sumStands,
@@ -25,33 +24,15 @@ use Rattle.rules.specs.Layout.{
 use Rattle.rules.specs.Rows.{originalWrong, wholeWrong}
 use Rattle.rules.specs.declared.Setting.{Setting}
 use Rattle.rules.proofs.Rows.{both, must-hold}
+use Rattle.rules.proofs.Headers.{WholeFacts, whole-facts}
 use Rattle.whole.specs.Places.{Lying}
 
 -- ---- Row 5
 
--- What a whole history has where row 5 passes it.
-pub record WholeFacts (room : ℕ) (s : Setting) : Type 0 where
-  pub behind : headerEnd (s .form) ≤ s .address
-  pub ends : committedEnd s ≤ room
-  pub sized : s .size ≡ wholeSize (s .count)
-  pub few : s .count ≤ revisionLimit
-
 module _ (h : List ℕ) (s : Setting) where
-  pub whole-facts : wholeWrong h s ≡ false → WholeFacts (length h) s
-  unfolding wholeWrong
-  whole-facts e =
-      let a8 = both _ _ (not-false _ e) in
-      let a7 = both _ _ (a8 .0) in
-      let a6 = both _ _ (a7 .0) in
-      let a5 = both _ _ (a6 .0) in
-      let a4 = both _ _ (a5 .0) in
-      let a3 = both _ _ (a4 .0) in
-      let a2 = both _ _ (a3 .0) in
-      record { behind = leb-true _ _ (a2 .0); ends = leb-true _ _ (a2 .1); sized = eqb-true _ _ (a3 .1); few = leb-true _ _ (a4 .1) }
-
-  -- Where one of them fails, the row holds.
+  -- Where one of the facts fails, the row holds.
   pub whole-fault : (WholeFacts (length h) s → ⊥) → true ≡ wholeWrong h s
-  whole-fault f = must-hold _ (λ e. f (whole-facts e))
+  whole-fault f = must-hold _ (λ e. f (whole-facts h s e))
 
   -- Where none does, the row goes by the start and the checksums.
   pub whole-parts : (m : ℕ) {started summed located : Bool} → WholeFacts (length h) s → m + 4 ≡ s .size

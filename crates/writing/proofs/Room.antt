@@ -1,7 +1,7 @@
 -- Rows 14 and 15 of a write, from what would result.
 use Prim.Native.Nat.{ℕ, _+_, _*_, _≤_, _<_}
-use mathlib.Core.Path.{_≡_, refl, sym}
-use mathlib.Core.Bool.{Bool, true, false, _||_, false≢true}
+use mathlib.Core.Path.{_≡_, refl}
+use mathlib.Core.Bool.{true, false}
 use mathlib.Core.List.{List}
 use native.Mathlib.Omega.{arith}
 use lib.Dec.{ltb}
@@ -13,6 +13,7 @@ use Rattle.rules.specs.Rows.{tooMany, noRoom}
 use Rattle.rules.specs.Calls.{row, _then_}
 use Rattle.rules.specs.declared.Entry.{Entry}
 use Rattle.rules.proofs.Rows.{row-holds, row-past, last-holds, last-past, row-clear, then-clear}
+use Rattle.rules.proofs.Sessions.{or-none}
 use Rattle.touching.specs.Pages.{Counted}
 
 -- Rows 14 and 15.
@@ -67,11 +68,7 @@ pub record Roomy (index : List Entry) (own : List ℕ) (long end p : ℕ) : Type
 
 few-pages : (index : List Entry) (own : List ℕ) → tooMany index own ≡ false → length own ≤ touchLimit
 unfolding tooMany
-few-pages index own e = go (ltb touchLimit (length own)) refl e
-  where
-    go : (b : Bool) → ltb touchLimit (length own) ≡ b → b || ltb entryLimit (mergedCount index own) ≡ false → length own ≤ touchLimit
-    go true q f = absurd (false≢true (sym f))
-    go false q _ = ltb-false touchLimit (length own) q
+few-pages index own e = ltb-false touchLimit (length own) (or-none _ _ e .0)
 
 pub rows-roomy : (index : List Entry) (own : List ℕ) (long end p : ℕ) → roomRows index own long end p ≡ 0 → Roomy index own long end p
 unfolding noRoom

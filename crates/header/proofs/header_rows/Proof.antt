@@ -4,7 +4,7 @@ use native.Mathlib.Omega.{arith}
 use Rattle.rules.specs.Layout.{headerWidth}
 use Rattle.rules.specs.Calls.{headerRows}
 use Rattle.rules.proofs.Rows.{row-holds, row-past, last-holds, last-past}
-use Rattle.header.proofs.Fields.{length-right}
+use Rattle.rules.proofs.Headers.{length-right}
 use borrow.Author.Needs.{needs}
 use Rattle.header.proofs.header_rows.Statement.{statement}
 use Rattle.header.proofs.header_rows.Tie as tie

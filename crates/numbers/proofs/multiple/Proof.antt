@@ -3,7 +3,8 @@ use mathlib.Core.Path.{ap}
 use Prim.Native.Nat.{ℕ}
 use native.Mathlib.Omega.{arith}
 use lib.Dec.{eqb}
-use Rattle.numbers.proofs.Page.{page-least, page-mask}
+use Rattle.rules.proofs.Headers.{page-least}
+use Rattle.numbers.proofs.Page.{page-mask}
 use Rattle.numbers.proofs.multiple.Statement.{statement}
 use Rattle.numbers.proofs.multiple.Tie as tie
 

@@ -1,6 +1,6 @@
 -- A refusal leaves history and session; else the lock is cleared and the session ends.
 use mathlib.Core.Path.{sym, _∙_}
-use Rattle.whole.proofs.Sound.{header-facts}
+use Rattle.rules.proofs.Headers.{header-facts}
 use Rattle.opening.proofs.Locking.{release-refused, release-accepted}
 use borrow.Author.Needs.{needs}
 use Rattle.opening.proofs.release.Statement.{statement}

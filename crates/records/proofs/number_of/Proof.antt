@@ -3,7 +3,7 @@ use mathlib.Core.Path.{sym, _∙_}
 use native.Mathlib.Omega.{arith}
 use Rattle.rules.proofs.Places.{end-behind}
 use Rattle.rules.proofs.Rows.{row-holds, row-past, last-holds, last-past}
-use Rattle.records.proofs.Fields.{right-facts}
+use Rattle.rules.proofs.Records.{record-right}
 use borrow.Author.Needs.{needs}
 use Rattle.records.proofs.number_of.Statement.{statement}
 use Rattle.records.proofs.number_of.Tie as tie
@@ -18,7 +18,7 @@ record-sum-wrong-requires : tie.Need-record-sum-wrong-requires
 record-sum-wrong-requires c κs =
     let begin = c .before .before .before in
     let r = begin .args .r in
-    let w = right-facts _ _ _ _ (sym (c .before .record-wrong .ensures) ∙ c .if1 .left) .0 in
+    let w = record-right _ _ _ _ (sym (c .before .record-wrong .ensures) ∙ c .if1 .left) .lies in
     let p = begin .pre .0 in
     let e = end-behind (begin .args .s .form) (r .address) (r .size) in
     (omega (arith, w .ends, e, p .inside), omega (arith, w .ends, w .sized, e, p .inside), p .short, omega (arith, w .sized))

@@ -3,7 +3,8 @@ use mathlib.Core.Path.{sym, _∙_}
 use native.Mathlib.Omega.{arith}
 use borrow.Author.Tests.{not-true, not-false}
 use Rattle.rules.proofs.Places.{end-behind}
-use Rattle.records.proofs.Fields.{lies-facts, fields-logical, wrong-lies, wrong-fields, wrong-entries, wrong-texts}
+use Rattle.rules.proofs.Records.{lies-facts, fields-logical}
+use Rattle.records.proofs.Fields.{wrong-lies, wrong-fields, wrong-entries, wrong-texts}
 use borrow.Author.Needs.{needs}
 use Rattle.records.proofs.record_wrong.Statement.{statement}
 use Rattle.records.proofs.record_wrong.Tie as tie

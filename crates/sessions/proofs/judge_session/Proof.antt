@@ -3,7 +3,8 @@ use mathlib.Core.Path.{sym, _∙_}
 use native.Mathlib.Omega.{arith}
 use Rattle.rules.specs.Calls.{sessionRows}
 use Rattle.rules.proofs.Rows.{row-holds, row-past, rows-hold, rows-past, refusal}
-use Rattle.sessions.proofs.Sound.{right-parts, below-parent, not-below, session-sound}
+use Rattle.rules.proofs.Sessions.{session-right}
+use Rattle.sessions.proofs.Sound.{below-parent, not-below, session-sound}
 use borrow.Author.Needs.{needs}
 use Rattle.sessions.proofs.judge_session.Statement.{statement}
 use Rattle.sessions.proofs.judge_session.Tie as tie
@@ -23,7 +24,7 @@ returns c =
 judge-requires : tie.Need-judge-requires
 judge-requires c κs =
     let begin = c .before .before .before in
-    let w = right-parts _ _ _ (sym (c .before .session-wrong .ensures) ∙ c .if1 .left) .0 in
+    let w = session-right _ _ _ (sym (c .before .session-wrong .ensures) ∙ c .if1 .left) in
     (begin .pre, omega (arith, w .parent, w .count))
 
 refused-requires-2 : tie.Need-refused-requires-2

@@ -3,8 +3,8 @@ use mathlib.Core.Path.{refl, sym, _∙_}
 use native.Mathlib.Omega.{arith}
 use Rattle.rules.specs.Calls.{bothRows}
 use Rattle.rules.proofs.Rows.{rows-hold, rows-past, row-holds, row-past, refusal}
+use Rattle.rules.proofs.Headers.{header-facts}
 use Rattle.whole.proofs.Whole.{original-differs, original-fits}
-use Rattle.whole.proofs.Sound.{header-facts}
 use borrow.Author.Needs.{needs}
 use Rattle.whole.proofs.judge_both.Statement.{statement}
 use Rattle.whole.proofs.judge_both.Tie as tie

@@ -4,8 +4,9 @@ use native.Mathlib.Omega.{arith}
 use borrow.Author.Tests.{not-true, not-false}
 use Rattle.rules.proofs.Places.{end-behind}
 use Rattle.rules.proofs.Rows.{last-holds, last-past, refusal}
+use Rattle.rules.proofs.Headers.{header-facts}
 use Rattle.whole.proofs.Whole.{front-lies, counted-setting, whole-of, counted-lies}
-use Rattle.whole.proofs.Sound.{header-facts, front-paged, sound}
+use Rattle.whole.proofs.Sound.{front-paged, sound}
 use borrow.Author.Needs.{needs}
 use Rattle.whole.proofs.judge_whole.Statement.{statement}
 use Rattle.whole.proofs.judge_whole.Tie as tie
