@@ -275,7 +275,7 @@ given-right original p h given w =
     sums zero l j m = absurd (omega arith)
     sums (suc k) l j m = check-passed h (w .checked) .2 (suc k) (omega arith) l .1 j m
 
--- Stands for itself.
+-- Stands for itself: demand 3 from a history that is given.
 pub from-given : FromGiven
 from-given original p h given calls more w =
     let first = after-later original p given calls (fresh h) (given-right original p h given w) in

@@ -1,4 +1,4 @@
--- The laws of what goes by the form. They hold of every form, and outside of them nothing rests on the numbers of the layout.
+-- The laws of what goes by the form. They hold of every form, and outside of them nothing rests on a number that a form can move.
 use mathlib.Core.Path.{_≡_, refl, sym, _∙_}
 use mathlib.Core.List.{List, _++_}
 use Prim.Native.Nat.{ℕ, zero, suc, _+_, _*_, _^_, _≤_, _<_}
