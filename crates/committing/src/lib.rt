@@ -167,8 +167,8 @@ fn put_texts(history: &mut [u8], form: Form, r: Record, name: &[u8], comment: &[
     let at = records::name_at(form, r);
     let behind = at + name.len();
     let end = behind + comment.len();
-    numbers::put_run(history, at, name);
-    numbers::put_run(history, behind, comment);
+    runs::put_run(history, at, name);
+    runs::put_run(history, behind, comment);
     parts::put_sum(history, r.address as usize, end);
 }
 

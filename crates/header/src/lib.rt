@@ -174,5 +174,5 @@ pub fn put_header(history: &mut [u8], s: Setting)
 {
     let mut header = [0u8; 40];
     fill_header(&mut header, s);
-    numbers::put_run(history, 0, &header);
+    runs::put_run(history, 0, &header);
 }

@@ -59,8 +59,8 @@ fn put_text(out: &mut [u8], at: usize, word: &[u8], text: &[u8]) -> usize
     ensures { λ r. ⌜ Written (now (out .entry)) at (now (word .entry) ++ now (text .entry)) (now (out .exit)) r ⌝ }
 {
     let next = at + word.len();
-    numbers::put_run(out, at, word);
-    numbers::put_run(out, next, text);
+    runs::put_run(out, at, word);
+    runs::put_run(out, next, text);
     next + text.len()
 }
 
@@ -70,7 +70,7 @@ fn put_number(out: &mut [u8], at: usize, word: &[u8], n: u64) -> usize
     ensures { λ r. ⌜ Written (now (out .entry)) at (now (word .entry) ++ decimal n) (now (out .exit)) r ⌝ }
 {
     let next = at + word.len();
-    numbers::put_run(out, at, word);
+    runs::put_run(out, at, word);
     put_decimal(out, next, n)
 }
 
@@ -117,7 +117,7 @@ fn put_setting_line(out: &mut [u8], at: usize, s: Setting) -> usize
     let count = put_number(out, original, b" revisions ", s.count);
     let lock = put_flag(out, count, b" lock ", s.lock);
     let branch = put_flag(out, lock, b" branch ", s.branching);
-    numbers::put_run(out, branch, b"\n");
+    runs::put_run(out, branch, b"\n");
     branch + 1
 }
 
@@ -158,7 +158,7 @@ fn put_record_line(out: &mut [u8], at: usize, history: &[u8], form: Form, r: Rec
     let next = put_text(out, next, b" ", &history[time..time_end]);
     let next = put_numbers(out, next, b" ", r.logical, r.entries);
     let next = put_text(out, next, b" ", &history[name..name_end]);
-    numbers::put_run(out, next, b"\n");
+    runs::put_run(out, next, b"\n");
     next + 1
 }
 
@@ -222,7 +222,7 @@ fn list_refused(out: &mut [u8], number: u64) -> usize
         return length;
     }
     let next = put_number(out, 0, b"refused ", number);
-    numbers::put_run(out, next, b"\n");
+    runs::put_run(out, next, b"\n");
     length
 }
 

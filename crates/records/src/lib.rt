@@ -82,7 +82,7 @@ fn put_descent(history: &mut [u8], form: Form, r: Record, time: &[u8])
     let at = r.address as usize;
     parts::put_start(history, at, form, SIGNATURE, r.revision);
     numbers::put_u64(history, at + 16, r.parent);
-    numbers::put_run(history, at + TIME, time);
+    runs::put_run(history, at + TIME, time);
 }
 
 // Stores all that stands ahead of a record's entries.

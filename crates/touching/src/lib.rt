@@ -36,7 +36,7 @@ fn put_page(history: &mut [u8], original: &[u8], p: Page, to: usize, from: usize
     let place = index::find(history, x, p.address as u64);
     if place < x.entries {
         let e = index::entry(history, x, place);
-        numbers::copy_run(history, e.physical as usize + from, to, n);
+        runs::copy_run(history, e.physical as usize + from, to, n);
         return;
     }
     view::put_original(history, to, original, p.address + from, n);
@@ -49,7 +49,7 @@ fn put_kept(history: &mut [u8], original: &[u8], p: Page, to: usize, from: usize
 {
     let keep = numbers::below(n, p.size, p.address + from);
     put_page(&mut *history, original, p, to, from, keep);
-    numbers::put_zeros(history, to + keep, n - keep);
+    runs::put_zeros(history, to + keep, n - keep);
 }
 
 // The bytes of a write that fall into a page: from the one to the other, behind so many of the page.
@@ -81,7 +81,7 @@ fn put_own(history: &mut [u8], to: usize, page: usize, address: usize, offset: u
     let run = run_in(page, address, offset, bytes.len());
     let from = run.from;
     let end = run.end;
-    numbers::put_run(history, to + run.skip, &bytes[from..end]);
+    runs::put_run(history, to + run.skip, &bytes[from..end]);
 }
 
 // Lays a write over the first copy of a page. Only what the write leaves of the copy is stored, so each byte is stored once.
@@ -102,7 +102,7 @@ fn put_around(
     let end = run.end;
     let behind = run.skip + (end - from);
     put_kept(&mut *history, original, p, to, 0, run.skip);
-    numbers::put_run(&mut *history, to + run.skip, &bytes[from..end]);
+    runs::put_run(&mut *history, to + run.skip, &bytes[from..end]);
     put_kept(
         &mut *history,
         original,
@@ -130,7 +130,7 @@ fn put_new(
         let from = p.address - offset;
         let end = from + page;
         if end <= bytes.len() {
-            numbers::put_run(history, to, &bytes[from..end]);
+            runs::put_run(history, to, &bytes[from..end]);
             return;
         }
     }

@@ -107,17 +107,17 @@ pub fn put_original(out: &mut [u8], to: usize, original: &[u8], from: usize, n: 
 {
     let length = original.len();
     if length <= from {
-        numbers::put_zeros(out, to, n);
+        runs::put_zeros(out, to, n);
         return;
     }
     let there = length - from;
     if n <= there {
         let end = from + n;
-        numbers::put_run(out, to, &original[from..end]);
+        runs::put_run(out, to, &original[from..end]);
         return;
     }
-    numbers::put_run(out, to, &original[from..length]);
-    numbers::put_zeros(out, to + there, n - there);
+    runs::put_run(out, to, &original[from..length]);
+    runs::put_zeros(out, to + there, n - there);
 }
 
 // Lays n bytes of the history over a buffer.
@@ -126,7 +126,7 @@ fn put_stored(out: &mut [u8], to: usize, history: &[u8], from: usize, n: usize)
     ensures { λ _. ⌜ now (out .exit) ≡ laid (now (out .entry)) to (part (now (history .entry)) from n) ⌝ }
 {
     let end = from + n;
-    numbers::put_run(out, to, &history[from..end]);
+    runs::put_run(out, to, &history[from..end]);
 }
 
 // The entry at a place; past the last, one that stands at the end, where nothing is looked for any more.

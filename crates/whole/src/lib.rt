@@ -195,7 +195,7 @@ pub fn put_whole(history: &mut [u8], s: Setting, r: Record)
     let start = layout::end_of(form, r.address, r.size) as usize;
     parts::put_start(history, start, form, SIGNATURE, s.count + 1);
     let standing = layout::LOCATION * s.count as usize;
-    numbers::copy_run(history, s.address as usize + FRONT, start + FRONT, standing);
+    runs::copy_run(history, s.address as usize + FRONT, start + FRONT, standing);
     let added = start + FRONT + standing;
     put_location(history, added, form, r.address, r.size);
     parts::put_sum(history, start, added + layout::LOCATION);

@@ -4,8 +4,8 @@ use native.Mathlib.Omega.{arith}
 use lib.ListN.{length}
 use borrow.Author.Needs.{needs}
 use Rattle.rules.proofs.Bytes.{LaidSoFar, laid-start, laid-length, laid-block, laid-end}
-use Rattle.numbers.proofs.put_blocks.Statement.{statement}
-use Rattle.numbers.proofs.put_blocks.Tie as tie
+use Rattle.runs.proofs.put_blocks.Statement.{statement}
+use Rattle.runs.proofs.put_blocks.Tie as tie
 
 abbrev Inv-loop : tie.InvT-loop
 Inv-loop bytes₀ at run k₀ bytes k = LaidSoFar bytes₀ at run bytes k

@@ -4,8 +4,8 @@ use native.Mathlib.Omega.{arith}
 use borrow.Author.Needs.{needs}
 use Rattle.rules.specs.Bytes.{part}
 use Rattle.rules.proofs.Bytes.{length-part, LaidSoFar, laid-start, laid-length, laid-copy, laid-end}
-use Rattle.numbers.proofs.copy_blocks.Statement.{statement}
-use Rattle.numbers.proofs.copy_blocks.Tie as tie
+use Rattle.runs.proofs.copy_blocks.Statement.{statement}
+use Rattle.runs.proofs.copy_blocks.Tie as tie
 
 abbrev Inv-loop : tie.InvT-loop
 Inv-loop bytes₀ from to n k₀ bytes k = LaidSoFar bytes₀ to (part bytes₀ from n) bytes k

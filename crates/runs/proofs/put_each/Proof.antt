@@ -4,8 +4,8 @@ use Prim.Native.Nat.{_-_}
 use native.Mathlib.Omega.{arith}
 use Rattle.rules.specs.Bytes.{part}
 use Rattle.rules.proofs.Bytes.{length-part, byte-part, LaidSoFar, laid-start, laid-length, laid-turn, laid-end}
-use Rattle.numbers.proofs.put_each.Statement.{statement}
-use Rattle.numbers.proofs.put_each.Tie as tie
+use Rattle.runs.proofs.put_each.Statement.{statement}
+use Rattle.runs.proofs.put_each.Tie as tie
 
 abbrev Inv-loop : tie.InvT-loop
 Inv-loop bytes₀ at run from n k₀ bytes k = LaidSoFar bytes₀ at (part run from n) bytes k

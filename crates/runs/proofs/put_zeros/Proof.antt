@@ -4,8 +4,8 @@ use Prim.Native.Nat.{_-_}
 use native.Mathlib.Omega.{arith}
 use lib.ListN.{replicate, length-replicate, getD-replicate}
 use Rattle.rules.proofs.Bytes.{LaidSoFar, laid-start, laid-length, laid-turn, laid-end}
-use Rattle.numbers.proofs.put_zeros.Statement.{statement}
-use Rattle.numbers.proofs.put_zeros.Tie as tie
+use Rattle.runs.proofs.put_zeros.Statement.{statement}
+use Rattle.runs.proofs.put_zeros.Tie as tie
 
 abbrev Inv-loop : tie.InvT-loop
 Inv-loop bytes₀ at n k₀ bytes k = LaidSoFar bytes₀ at (replicate n 0) bytes k
