@@ -1,6 +1,6 @@
-//! Links the proved store.
+//! Links the proved store, for this package and for `compare`.
 //!
-//! - `ONION_LIBRARY_FOLDER` is the folder that holds it, from the root or from this package's folder; unless set it is
+//! - `ONION_LIBRARY_FOLDER` is the folder that holds it, from the root or from the package's folder; unless set it is
 //!   the repository's `target/lib`, where `make lib` puts it.
 //! - `ONION_LINK` is `static` (libonion.a, unless set) or `dylib` (libonion.so, which must then be found when the
 //!   program runs, for example by `LD_LIBRARY_PATH`).

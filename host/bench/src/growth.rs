@@ -1,10 +1,9 @@
 //! How the cost of a call grows with the revisions of a history and with the entries of a record.
 
-use crate::histories::{self, accepted, Store};
-use crate::timing::{best, grouped, Seconds};
-use compare::forge::{NEWEST, TIME};
-use compare::proved;
-use twin::Session;
+use crate::calls;
+use crate::histories::{self, Store};
+use crate::timing::{grouped, Seconds};
+use forge::NEWEST;
 
 pub fn print() {
     println!("## How the cost grows");
@@ -44,62 +43,9 @@ fn measure([mut written, whole]: [Store; 2]) -> [[Seconds; 2]; 4] {
     let start = written.open();
     let touched = written.write(start, 16, b"x");
     [
-        read(&whole),
-        write(&written, start),
-        commit(&written, touched),
-        check(&whole),
+        calls::read(&whole, NEWEST, 4_096),
+        calls::write(&written, start, 160, b"x"),
+        calls::commit(&written, touched),
+        calls::check(&whole),
     ]
-}
-
-fn read(store: &Store) -> [Seconds; 2] {
-    let Store { original, history } = store;
-    let mut ours = vec![0; 4_096];
-    let mut theirs = vec![0; 4_096];
-    best([
-        &mut || accepted(proved::read(original, history, NEWEST, 0, &mut ours)),
-        &mut || accepted(twin::read(original, history, NEWEST, 0, &mut theirs)),
-    ])
-}
-
-fn write(store: &Store, session: Session) -> [Seconds; 2] {
-    let at = 160;
-    let (mut ours, mut theirs) = (store.clone(), store.clone());
-    best([
-        &mut || {
-            let Store { original, history } = &mut ours;
-            accepted(proved::write(session, original, history, at, b"x").number);
-        },
-        &mut || {
-            let Store { original, history } = &mut theirs;
-            accepted(twin::write(session, original, history, at, b"x").number);
-        },
-    ])
-}
-
-/// A commit changes the header and bytes behind the committed end alone, so that the old header makes it possible
-/// once more.
-fn commit(store: &Store, session: Session) -> [Seconds; 2] {
-    let (mut ours, mut theirs) = (store.history.clone(), store.history.clone());
-    let header = &store.history[..40];
-    let times = best([
-        &mut || {
-            ours[..40].copy_from_slice(header);
-            let answer = proved::commit(session, &mut ours, TIME, 7, b"ana\0", b"\0");
-            accepted(answer.number);
-        },
-        &mut || {
-            theirs[..40].copy_from_slice(header);
-            let answer = twin::commit(session, &mut theirs, TIME, 7, b"ana\0", b"\0");
-            accepted(answer.number);
-        },
-    ]);
-    assert!(ours == theirs);
-    times
-}
-
-fn check(store: &Store) -> [Seconds; 2] {
-    let history = &store.history;
-    best([&mut || accepted(proved::check(history).number), &mut || {
-        accepted(twin::check(history).number)
-    }])
 }

@@ -1,7 +1,6 @@
 //! Histories to take the time of. Both sides get the same bytes.
 
-use compare::forge::{self, Entry, NEWEST, TIME};
-use compare::random::Random;
+use forge::{Entry, Random, NEWEST, TIME};
 use twin::Session;
 
 /// An original and a history of it, which both sides find in buffers of their own.
@@ -75,15 +74,9 @@ pub fn with_one_revision(entries: u64) -> Store {
     let mut plan = forge::empty(16, original.len() as u64);
     let mut record = forge::plain_record(1, 60 + 16 * entries, 16, plan.original);
     record.entries = (0..entries)
-        .map(|k| Entry {
-            logical: 16 * k,
-            physical: 60 + 16 * k,
-            page_sum_fault: 0,
-            entry_sum_fault: 0,
-        })
+        .map(|k| Entry::new(16 * k, 60 + 16 * k))
         .collect();
-    plan.whole_at = record.end();
-    plan.records.push(record);
+    plan.append(record);
     plan.give_room(&mut random, 200_000);
     Store {
         original,

@@ -6,13 +6,13 @@
 //! difference is what the exported call itself needs below its return address, exactly and without its caller's share.
 //! Each call is run on several inputs, with two paints, and the deepest counts.
 //!
-//! What a function reserves below all that it and its callees store is not seen. The arguments that lie on the stack by the C convention
-//! and the return address belong to the caller and are told beside.
+//! What a function reserves below all that it and its callees store is not seen. The arguments that lie on the stack by
+//! the C convention and the return address belong to the caller and are told beside.
 
 use crate::histories::{self, Store};
 use crate::timing::grouped;
-use compare::forge::{NEWEST, TIME};
 use compare::proved::exported::*;
+use forge::{NEWEST, TIME};
 use std::arch::{asm, naked_asm};
 use std::ffi::c_void;
 use std::hint::black_box;
@@ -378,10 +378,7 @@ const INPUTS: [fn() -> Inputs; 6] = [
 /// A locked store with a session of so many pages.
 fn inputs(mut store: Store, pages: u64, name: &[u8]) -> Inputs {
     let mut session = store.open();
-    let page = store.history[8..10]
-        .iter()
-        .rev()
-        .fold(0, |all, byte| all << 8 | u64::from(*byte));
+    let page = u64::from(forge::number_of_4(&store.history, 8));
     for k in 0..pages {
         // Between indexed pages where there is room, and over them otherwise.
         let at = (k * 256 + 16 * (k % 2)) % session.size;

@@ -1,10 +1,10 @@
 //! The table of times.
 
+use crate::calls;
 use crate::histories::{self, accepted, Store};
 use crate::timing::{best, grouped, line, ROUNDS};
-use compare::forge::TIME;
 use compare::proved;
-use compare::random::Random;
+use forge::{Random, TIME};
 use std::hint::black_box;
 
 const MEBIBYTE: usize = 1 << 20;
@@ -62,7 +62,7 @@ fn whole_sessions() {
         let store = histories::new(page as u64, length, 2 * length + 100_000);
         let data = Random::seeded(&[2]).bytes(length);
         let (mut ours, mut theirs) = (store.clone(), store);
-        let [proved, twin] = best([
+        let times = best([
             &mut || {
                 let Store { original, history } = &mut ours;
                 let size = original.len() as u64;
@@ -87,77 +87,34 @@ fn whole_sessions() {
             "create, open, write and commit of 256 pages, p = {}",
             grouped(page as u64)
         );
-        line(&name, proved, twin);
+        line(&name, times);
     }
 }
 
-/// The two halves of a session of 256 pages, each for itself. The header alone is put back behind a commit.
+/// The two halves of a session of 256 pages, each for itself.
 fn write_and_commit_apart() {
     const PAGE: usize = 16;
     let length = 256 * PAGE;
     let mut store = histories::new(PAGE as u64, length, 2 * length + 100_000);
     let data = Random::seeded(&[2]).bytes(length);
-    let size = store.original.len() as u64;
-    accepted(proved::create(&mut store.history, size, PAGE as u64, false));
     let session = store.open();
-    let (mut ours, mut theirs) = (store.clone(), store);
-    let [proved, twin] = best([
-        &mut || {
-            let Store { original, history } = &mut ours;
-            accepted(proved::write(session, original, history, 0, &data).number);
-        },
-        &mut || {
-            let Store { original, history } = &mut theirs;
-            accepted(twin::write(session, original, history, 0, &data).number);
-        },
-    ]);
-    line("write of 256 pages into a new session, p = 16", proved, twin);
-
-    let written = proved::write(session, &ours.original, &mut ours.history, 0, &data).session;
-    theirs = ours.clone();
-    let open = ours.history[..40].to_vec();
-    let [proved, twin] = best([
-        &mut || {
-            ours.history[..40].copy_from_slice(&open);
-            accepted(proved::commit(written, &mut ours.history, TIME, 7, b"ana\0", b"\0").number);
-        },
-        &mut || {
-            theirs.history[..40].copy_from_slice(&open);
-            accepted(twin::commit(written, &mut theirs.history, TIME, 7, b"ana\0", b"\0").number);
-        },
-    ]);
-    assert!(ours.history == theirs.history);
-    line("commit of these 256 pages, p = 16", proved, twin);
+    let times = calls::write(&store, session, 0, &data);
+    line("write of 256 pages into a new session, p = 16", times);
+    let written = store.write(session, 0, &data);
+    let times = calls::commit(&store, written);
+    line("commit of these 256 pages, p = 16", times);
 }
 
-/// A first touch each time: the session that the write hands back is not used again.
 fn one_byte_write() {
     let mut store = histories::with_entries(16, 4_096, 256, MEBIBYTE);
     let session = store.open();
-    let (mut ours, mut theirs) = (store.clone(), store);
-    let [proved, twin] = best([
-        &mut || {
-            let Store { original, history } = &mut ours;
-            accepted(proved::write(session, original, history, 1 << 19, b"x").number);
-        },
-        &mut || {
-            let Store { original, history } = &mut theirs;
-            accepted(twin::write(session, original, history, 1 << 19, b"x").number);
-        },
-    ]);
-    assert!(ours.history == theirs.history);
-    line(
-        "write of one byte, parent of 4,096 entries, p = 16",
-        proved,
-        twin,
-    );
+    let times = calls::write(&store, session, 1 << 19, b"x");
+    line("write of one byte, parent of 4,096 entries, p = 16", times);
 }
 
 fn reads() {
     let large = histories::with_entries(4_096, 256, 4_096, MEBIBYTE);
     let small = histories::with_entries(16, 4_096, 256, MEBIBYTE);
-    let mut ours = vec![0; MEBIBYTE];
-    let mut theirs = vec![0; MEBIBYTE];
     for (name, store, revision) in [
         (
             "read of 1 MiB, p = 4,096, all of its 256 pages indexed",
@@ -172,13 +129,7 @@ fn reads() {
         ),
         ("read of 1 MiB, p = 16, the original", &small, 0),
     ] {
-        let Store { original, history } = store;
-        let [proved, twin] = best([
-            &mut || accepted(proved::read(original, history, revision, 0, &mut ours)),
-            &mut || accepted(twin::read(original, history, revision, 0, &mut theirs)),
-        ]);
-        assert!(ours == theirs);
-        line(name, proved, twin);
+        line(name, calls::read(store, revision, MEBIBYTE));
     }
 }
 
@@ -199,11 +150,11 @@ fn look_ups() {
             proved::look_up(original, history, 16, address),
             twin::look_up(original, history, 16, address)
         );
-        let [proved, twin] = best([
+        let times = best([
             &mut || accepted(proved::look_up(original, history, 16, address).number),
             &mut || accepted(twin::look_up(original, history, 16, address).number),
         ]);
-        line(name, proved, twin);
+        line(name, times);
     }
 }
 
@@ -211,21 +162,16 @@ fn look_ups() {
 fn many_revisions() {
     let store = histories::with_revisions(1_024);
     let history = &store.history;
-    let [proved, twin] = best([&mut || accepted(proved::check(history).number), &mut || {
-        accepted(twin::check(history).number)
-    }]);
     line(
         "whole check of 1,024 revisions with 16 entries each",
-        proved,
-        twin,
+        calls::check(&store),
     );
-    let [proved, twin] = best([
+    let times = best([
         &mut || (1..=1_024).for_each(|k| accepted(proved::browse(history, k).number)),
         &mut || (1..=1_024).for_each(|k| accepted(twin::browse(history, k).number)),
     ]);
     line(
         "browsing of the records of all 1,024 revisions, one call each",
-        proved,
-        twin,
+        times,
     );
 }

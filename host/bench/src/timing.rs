@@ -60,7 +60,7 @@ fn time(job: &mut dyn FnMut(), passes: u32) -> f64 {
 }
 
 /// A line of a table: both times and how many times as long the proved store takes.
-pub fn line(name: &str, proved: Seconds, twin: Seconds) {
+pub fn line(name: &str, [proved, twin]: [Seconds; 2]) {
     println!("| {name} | {proved} | {twin} | {:.2} |", proved.0 / twin.0);
 }
 

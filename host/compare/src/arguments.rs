@@ -1,18 +1,16 @@
 //! Extreme numbers as arguments, empty slices, arbitrary records to browse, and checksums of many lengths.
 
-use crate::calls::{self, Store};
+use crate::calls::{self, Store, ENDED};
 use crate::exercise;
 use crate::report::Test;
-use compare::forge::{self, ENDED, LIMIT, NEWEST};
-use compare::random::{Random, EXTREMES};
+use forge::{Random, EXTREMES, LIMIT, NEWEST};
 use twin::Session;
 
 /// Every call with extreme numbers on one legal history.
 pub fn run_extremes(test: &mut Test, random: &mut Random, number: u64) {
     let mut plan = forge::legal(random);
     plan.allow_branching();
-    let original = random.bytes(plan.original as usize);
-    let store = Store::new(random, &original, &plan.build());
+    let store = Store::planned(random, &plan);
     let count = plan.records.len() as u64;
     let mut numbers = EXTREMES.to_vec();
     for near in [count, plan.original, plan.size_of(count), plan.page] {
@@ -102,7 +100,7 @@ pub fn run_steps(test: &mut Test, random: &mut Random, _: u64) {
                 3 => room + random.pick(&[1 << 61, 1 << 62, 1 << 63]),
                 _ => random.below(room + 1),
             };
-            forge::put(&mut record, 56, &count.to_le_bytes());
+            forge::put_8(&mut record, 56, count);
         }
         for place in [
             0,
@@ -117,25 +115,9 @@ pub fn run_steps(test: &mut Test, random: &mut Random, _: u64) {
     calls::browse_step(test, &[], random.extreme(0));
 }
 
-/// The paper's sentences, taken word for word and slowly.
-fn by_the_paper(bytes: &[u8]) -> u32 {
-    let (mut first, mut second) = (0_u128, 0_u128);
-    for pair in bytes.chunks(2) {
-        let low = pair.get(1).copied().unwrap_or(0);
-        first += u128::from(pair[0]) * 256 + u128::from(low);
-        second += first;
-    }
-    let sum = |total: u128| match (total, total % 65_535) {
-        (0, _) => 0,
-        (_, 0) => 65_535,
-        (_, rest) => rest,
-    };
-    (sum(second) * 65_536 + sum(first)) as u32
-}
-
 fn checksum(test: &mut Test, bytes: &[u8]) {
     calls::checksum(test, bytes);
-    if twin::checksum(bytes) != by_the_paper(bytes) {
+    if twin::checksum(bytes) != forge::checksum(bytes) {
         let text = "both sides answer another number than the paper";
         test.differs(&format!("checksum of {} bytes", bytes.len()), text, "");
     }
@@ -190,9 +172,9 @@ pub fn run_anything(test: &mut Test, random: &mut Random, _: u64) {
     let mut history = random.bytes(length);
     if length >= 40 && random.one_in(2) {
         forge::put(&mut history, 0, b"OHDH\x01\x01\0\0\x10\0\0\0");
-        forge::put(&mut history, 12, &random.extreme(10).to_le_bytes());
-        forge::put(&mut history, 20, &random.extreme(40).to_le_bytes());
-        forge::put(&mut history, 28, &random.extreme(20).to_le_bytes());
+        forge::put_8(&mut history, 12, random.extreme(10));
+        forge::put_8(&mut history, 20, random.extreme(40));
+        forge::put_8(&mut history, 28, random.extreme(20));
         let depth = random.pick(&forge::REPAIRS);
         forge::repair(&mut history, depth);
     }

@@ -2,11 +2,20 @@
 //! of the session, and every lent byte, also some around the lent ones.
 
 use crate::report::{Call, Test};
-use compare::forge::{self, ENDED};
 use compare::proved;
-use compare::random::Random;
+use forge::{Plan, Random, LIMIT};
 use std::ops::Range;
 use twin::{Answer, Browsed, Checked, Found, Session, Step};
+
+/// The ended session, all zeros.
+pub const ENDED: Session = Session {
+    end: 0,
+    count: 0,
+    parent: 0,
+    size: 0,
+    n: 0,
+    pages: [0; 256],
+};
 
 /// Bytes kept around lent ones, to see that nothing is stored there.
 const AROUND: usize = 32;
@@ -66,6 +75,17 @@ impl Store {
             before: Vec::new(),
             compared: EVERYTHING,
         }
+    }
+
+    /// The history of a plan, and an original for it.
+    pub fn planned(random: &mut Random, plan: &Plan) -> Store {
+        let lent = match plan.original {
+            0..=LIMIT => plan.original,
+            // No original of that length can be lent; row 2 comes before row 4.
+            _ => 7,
+        };
+        let original = random.bytes(lent as usize);
+        Store::new(random, &original, &plan.build())
     }
 
     pub fn original(&self) -> &[u8] {

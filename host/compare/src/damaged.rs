@@ -3,14 +3,12 @@
 use crate::calls::Store;
 use crate::exercise;
 use crate::report::Test;
-use compare::forge::{self, Repair};
-use compare::random::{Random, EXTREMES};
+use forge::{Random, Repair, EXTREMES};
 
 /// A legal history, and an original for it.
 fn base(random: &mut Random) -> Store {
     let plan = forge::legal(random);
-    let original = random.bytes(plan.original as usize);
-    Store::new(random, &original, &plan.build())
+    Store::planned(random, &plan)
 }
 
 pub fn run(test: &mut Test, random: &mut Random, _: u64) {
@@ -28,6 +26,7 @@ pub fn run(test: &mut Test, random: &mut Random, _: u64) {
     }
 }
 
+/// Flips bits, gives a byte or a field another value, or cuts the history off; a byte is left at least.
 fn damage(random: &mut Random, history: &mut Vec<u8>) {
     match random.below(10) {
         0..=2 => {
@@ -57,21 +56,12 @@ fn damage(random: &mut Random, history: &mut Vec<u8>) {
                 return;
             }
             let field = fields[random.below(fields.len() as u64) as usize].clone();
-            set(random, history, field);
+            forge::change(random, &mut history[field]);
         }
     }
     if history.is_empty() {
         history.push(0);
     }
-}
-
-/// Gives a field another number, often one near its own.
-fn set(random: &mut Random, history: &mut [u8], field: forge::Field) {
-    let mut number = [0; 8];
-    number[..field.len()].copy_from_slice(&history[field.clone()]);
-    let number = random.extreme(u64::from_le_bytes(number)).to_le_bytes();
-    let width = field.len();
-    history[field].copy_from_slice(&number[..width]);
 }
 
 /// Every field of one history set to every extreme number, with all checksums repaired and with none.

@@ -1,9 +1,8 @@
 //! All calls on a history of any kind, with arguments that mostly fit it.
 
-use crate::calls::{browse_step, Store};
+use crate::calls::{browse_step, Store, ENDED};
 use crate::report::Test;
-use compare::forge::{self, ENDED, NEWEST};
-use compare::random::Random;
+use forge::{Plan, Random, NEWEST};
 use twin::Session;
 
 /// What a history seems to say; it may be damaged.
@@ -132,17 +131,31 @@ pub fn fitting_session(store: &Store, random: &mut Random, revision: u64) -> Ses
     }
     let room = (store.history().len() as u64).saturating_sub(session.end) / guess.page;
     let pages = session.size.min(forge::LIMIT).div_ceil(guess.page);
-    let mut logicals: Vec<u32> = (0..random.below(5).min(room).min(pages))
+    let logicals = (0..random.below(5).min(room).min(pages))
         .map(|_| (random.below(pages.min(12)) * guess.page) as u32)
         .collect();
+    touch(random, &mut session, logicals);
+    session
+}
+
+/// The session that an opening of this revision would hand back.
+pub fn opened_session(plan: &Plan, parent: u64) -> Session {
+    Session {
+        end: plan.end(),
+        count: plan.records.len() as u64,
+        parent,
+        size: plan.size_of(parent),
+        ..ENDED
+    }
+}
+
+/// Gives a session these pages, each once, in any order of touch.
+pub fn touch(random: &mut Random, session: &mut Session, mut logicals: Vec<u32>) {
     logicals.sort_unstable();
     logicals.dedup();
-    for i in (1..logicals.len()).rev() {
-        logicals.swap(i, random.below(i as u64 + 1) as usize);
-    }
+    random.shuffle(&mut logicals);
     session.n = logicals.len() as u64;
     session.pages[..logicals.len()].copy_from_slice(&logicals);
-    session
 }
 
 /// Some writes and reads through a session, then its end.

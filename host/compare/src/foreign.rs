@@ -4,14 +4,12 @@
 use crate::calls::Store;
 use crate::exercise;
 use crate::report::Test;
-use compare::forge::{self, Entry, Plan, Record, LIMIT};
-use compare::random::Random;
+use forge::{Entry, Plan, Random, Record, LIMIT};
 use twin::Checked;
 
 pub fn run_legal(test: &mut Test, random: &mut Random, _: u64) {
     let plan = forge::legal(random);
-    let original = random.bytes(plan.original as usize);
-    let store = Store::new(random, &original, &plan.build());
+    let store = Store::planned(random, &plan);
     let answer = store.check(test);
     if answer.number != 0 {
         let text = format!("both sides find {answer:?} in a legal history");
@@ -41,13 +39,7 @@ pub fn run_rule(test: &mut Test, random: &mut Random, number: u64) {
             break (plan, place);
         }
     };
-    let lent = match plan.original {
-        0..=LIMIT => plan.original,
-        // No original of that length can be lent; row 2 comes before row 4.
-        _ => 7,
-    };
-    let original = random.bytes(lent as usize);
-    let store = Store::new(random, &original, &plan.build());
+    let store = Store::planned(random, &plan);
     let answer = store.check(test);
     let want = Checked {
         number: rule.row,
@@ -507,14 +499,7 @@ pub static RULES: std::sync::LazyLock<Vec<Rule>> = std::sync::LazyLock::new(|| {
             resized(plan, random, |record, _| {
                 record.at = record.at.max(76);
                 record.size = LIMIT;
-                record.entries = (0..4_097)
-                    .map(|k| Entry {
-                        logical: 16 * k,
-                        physical: 60,
-                        page_sum_fault: 0,
-                        entry_sum_fault: 0,
-                    })
-                    .collect();
+                record.entries = (0..4_097).map(|k| Entry::new(16 * k, 60)).collect();
             })
         }),
         rule(7, "name of 0 bytes", |plan, random| {

@@ -1,9 +1,9 @@
 //! Slices longer than numbers of 32 bits can tell.
 
+use crate::calls::ENDED;
 use crate::report::{Call, Test};
-use compare::forge::{ENDED, TIME};
 use compare::proved;
-use compare::random::Random;
+use forge::{Random, TIME};
 use std::alloc::{alloc_zeroed, dealloc, Layout};
 
 /// A little over 2^32 bytes. They start as a created history; the rest are zeros that take no memory until stored to.

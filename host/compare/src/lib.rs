@@ -1,6 +1,3 @@
-//! What the comparison and the benchmark share: the proved store's C interface, histories of any shape made byte by
-//! byte, and numbers that look random.
+//! The proved store's C interface, which the comparison and the benchmark share.
 
-pub mod forge;
 pub mod proved;
-pub mod random;

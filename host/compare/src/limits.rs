@@ -1,10 +1,9 @@
 //! Each limit of the store reached exactly, and passed by one.
 
-use crate::calls::{Store, EVERYTHING};
+use crate::calls::{Store, ENDED, EVERYTHING};
 use crate::exercise;
 use crate::report::Test;
-use compare::forge::{self, Entry, Plan, ENDED, LIMIT, NEWEST, TIME};
-use compare::random::{Random, PAGE_SIZES};
+use forge::{Entry, Plan, Random, LATER, LIMIT, NEWEST, PAGE_SIZES, TIME};
 
 type Scenario = fn(&mut Test, &mut Random);
 
@@ -51,16 +50,8 @@ fn new_store(random: &mut Random, original: usize, page: u64, room: usize) -> St
 fn indexed(page: u64, entries: u64, size: u64, random: &mut Random) -> Plan {
     let mut plan = forge::empty(page, random.below(size.min(1_000)));
     let mut record = forge::plain_record(1, 60 + page, page, size);
-    record.entries = (0..entries)
-        .map(|k| Entry {
-            logical: k * page,
-            physical: 60,
-            page_sum_fault: 0,
-            entry_sum_fault: 0,
-        })
-        .collect();
-    plan.whole_at = record.end();
-    plan.records.push(record);
+    record.entries = (0..entries).map(|k| Entry::new(k * page, 60)).collect();
+    plan.append(record);
     plan.allow_branching();
     plan
 }
@@ -80,7 +71,7 @@ fn worked_example(test: &mut Test, random: &mut Random) {
     let session = store.open(test, 1).session;
     let session = store.write(test, session, 20, b"e").session;
     expect("size", session.size, 21, test);
-    store.commit(test, session, b"20240305T091500Z", 1, b"ana\0", b"\0");
+    store.commit(test, session, LATER, 1, b"ana\0", b"\0");
     expect("end", forge::committed_end(store.history()), 466, test);
     expect("read", store.read(test, 1, 20, 1).0, 10, test);
     expect("read", store.read(test, 2, 20, 1).0, 0, test);
@@ -139,8 +130,7 @@ fn merged_entries(test: &mut Test, random: &mut Random) {
     for held in [4_095, 4_096] {
         let mut plan = indexed(16, held, size, random);
         plan.give_room(random, 120_000);
-        let original = random.bytes(plan.original as usize);
-        let mut store = Store::new(random, &original, &plan.build());
+        let mut store = Store::planned(random, &plan);
         let session = store.open(test, 1).session;
         // Over indexed pages nothing is added.
         expect(
@@ -174,9 +164,8 @@ fn merged_entries_in_commit(test: &mut Test, random: &mut Random) {
         let mut plan = indexed(16, held, size, random);
         plan.set_lock();
         plan.give_room(random, 120_000);
-        let original = random.bytes(plan.original as usize);
-        let store = Store::new(random, &original, &plan.build());
-        let mut session = forge::session(&plan, 1);
+        let store = Store::planned(random, &plan);
+        let mut session = exercise::opened_session(&plan, 1);
         session.n = 256;
         for k in 0..256 {
             // All put in, none put over.
@@ -254,13 +243,11 @@ fn last_revision(test: &mut Test, random: &mut Random) {
         let mut record = forge::plain_record(revision, at, 16, 30 + revision);
         record.parent = random.below(revision);
         at = record.end();
-        plan.records.push(record);
+        plan.append(record);
     }
-    plan.whole_at = at;
     plan.header_start[5] = random.pick(&[0, 2]);
     plan.give_room(random, 40_000);
-    let original = random.bytes(30);
-    let mut store = Store::new(random, &original, &plan.build());
+    let mut store = Store::planned(random, &plan);
     let mut session = store.open(test, NEWEST).session;
     session = store.write(test, session, 3, b"last but one").session;
     let answer = store.commit(test, session, TIME, 9, b"a\0", b"\0");
@@ -410,8 +397,7 @@ fn end_of_a_write(test: &mut Test, random: &mut Random) {
     for page in [16, 512, 4_096] {
         let mut plan = indexed(page, 3, LIMIT - random.below(2) * 10, random);
         plan.give_room(random, 8 * page + 1_000);
-        let original = random.bytes(plan.original as usize);
-        let mut store = Store::new(random, &original, &plan.build());
+        let mut store = Store::planned(random, &plan);
         let session = store.open(test, 1).session;
         for start in [session.size, LIMIT - 10, session.size - 1, LIMIT - page] {
             let rest = LIMIT - start;
@@ -461,8 +447,7 @@ fn page_over_the_originals_end(test: &mut Test, random: &mut Random) {
             let mut plan = forge::empty(page, original as u64);
             let size = original as u64 + page;
             let record = forge::plain_record(1, 60, page, size);
-            plan.whole_at = record.end();
-            plan.records.push(record);
+            plan.append(record);
             plan.give_room(random, 10);
             let foreign = store.with_history(random, &plan.build());
             for (address, number) in [(page, 0), (2 * page, 20), (3 * page, 20)] {

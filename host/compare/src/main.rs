@@ -18,7 +18,7 @@ mod report;
 mod sequences;
 mod sessions;
 
-use compare::random::Random;
+use forge::Random;
 use report::Test;
 use std::env;
 use std::io::{BufRead, BufReader, Write};

@@ -3,8 +3,7 @@
 use crate::calls::Store;
 use crate::exercise;
 use crate::report::Test;
-use compare::forge::{self, Entry, Plan, LIMIT, NEWEST};
-use compare::random::Random;
+use forge::{Entry, Plan, Random, LIMIT, NEWEST};
 use twin::Session;
 
 pub fn run(test: &mut Test, random: &mut Random, _: u64) {
@@ -17,8 +16,7 @@ pub fn run(test: &mut Test, random: &mut Random, _: u64) {
         _ => (session.n + 300) * plan.page + 130_000,
     };
     plan.give_room(random, room);
-    let original = random.bytes(plan.original as usize);
-    let mut store = Store::new(random, &original, &plan.build());
+    let mut store = Store::planned(random, &plan);
     let page = plan.page;
     let mut session = session;
     for _ in 0..3 {
@@ -80,12 +78,7 @@ fn long_index(random: &mut Random) -> Plan {
     let mut record = forge::plain_record(1, 60 + pages * page, page, size);
     for logical in logicals {
         let physical = 60 + random.below((pages - 1) * page + 1);
-        record.entries.push(Entry {
-            logical,
-            physical,
-            page_sum_fault: 0,
-            entry_sum_fault: 0,
-        });
+        record.entries.push(Entry::new(logical, physical));
     }
     if random.one_in(3) {
         let place = random.below(held) as usize;
@@ -93,8 +86,7 @@ fn long_index(random: &mut Random) -> Plan {
             entry.page_sum_fault = 1 << random.below(32);
         }
     }
-    plan.whole_at = record.end();
-    plan.records.push(record);
+    plan.append(record);
     plan
 }
 
@@ -107,7 +99,7 @@ fn damaged(plan: &Plan) -> Option<u64> {
 
 /// A session with up to 256 pages in any order, over indexed pages as well as beside them.
 fn many_pages(random: &mut Random, plan: &Plan, parent: u64) -> Session {
-    let mut session = forge::session(plan, parent);
+    let mut session = exercise::opened_session(plan, parent);
     session.size = (session.size + random.below(300 * plan.page)).min(LIMIT);
     let pages = session.size.div_ceil(plan.page);
     let wanted = match random.below(3) {
@@ -121,12 +113,6 @@ fn many_pages(random: &mut Random, plan: &Plan, parent: u64) -> Session {
     if pages == 0 {
         logicals.clear();
     }
-    logicals.sort_unstable();
-    logicals.dedup();
-    for i in (1..logicals.len()).rev() {
-        logicals.swap(i, random.below(i as u64 + 1) as usize);
-    }
-    session.n = logicals.len() as u64;
-    session.pages[..logicals.len()].copy_from_slice(&logicals);
+    exercise::touch(random, &mut session, logicals);
     session
 }

@@ -1,10 +1,9 @@
 //! Random call sequences from creation on, with refused calls in between, and what was written kept beside them.
 
-use crate::calls::Store;
+use crate::calls::{Store, ENDED};
 use crate::exercise::{self, guess};
 use crate::report::Test;
-use compare::forge::{self, ENDED, LIMIT, NEWEST};
-use compare::random::Random;
+use forge::{Random, LIMIT, NEWEST};
 use twin::Session;
 
 /// What each revision and the open session must read as, by the paper's sentence: the parent's bytes with the writes

@@ -1,10 +1,9 @@
 //! Sessions of every kind on locked histories: right ones, ones with one word off, and random words.
 
-use crate::calls::Store;
+use crate::calls::{Store, ENDED};
 use crate::exercise;
 use crate::report::Test;
-use compare::forge::{self, Plan, ENDED, LIMIT};
-use compare::random::Random;
+use forge::{Plan, Random, LIMIT};
 use twin::Session;
 
 pub fn run(test: &mut Test, random: &mut Random, _: u64) {
@@ -26,8 +25,7 @@ pub fn run(test: &mut Test, random: &mut Random, _: u64) {
         _ => room + 30 * plan.page + 4_000,
     };
     plan.give_room(random, room);
-    let original = random.bytes(plan.original as usize);
-    let store = Store::new(random, &original, &plan.build());
+    let store = Store::planned(random, &plan);
     use_it(test, random, &store, session, plan.page);
     for _ in 0..6 {
         let mut other = session;
@@ -64,7 +62,7 @@ fn use_it(test: &mut Test, random: &mut Random, store: &Store, session: Session,
 
 /// A session with some pages that fits the plan, in any order of touch.
 fn right_session(plan: &Plan, random: &mut Random, parent: u64) -> Session {
-    let mut session = forge::session(plan, parent);
+    let mut session = exercise::opened_session(plan, parent);
     session.size = match random.below(4) {
         0 => session.size,
         1 => LIMIT,

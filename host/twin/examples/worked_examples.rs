@@ -39,10 +39,8 @@ fn commit(session: Session, history: &mut [u8], time: &[u8]) {
     let record = twin::browse(history, u64::MAX);
     say("  record at", record.offset);
     say("  of", record.length);
-    let number_at =
-        |at: usize| u64::from_le_bytes(history[at..at + 8].try_into().expect("eight bytes"));
-    say("  whole history at", number_at(20));
-    say("  of", number_at(28));
+    say("  whole history at", forge::number_of_8(history, 20));
+    say("  of", forge::number_of_8(history, 28));
 }
 
 fn show_page(history: &[u8], revision: u64, address: u64) {
@@ -74,6 +72,12 @@ fn show_bytes(history: &[u8], revision: u64, at: u64, length: usize) {
     println!("  {}", String::from_utf8_lossy(&out));
 }
 
+fn show_list(history: &[u8]) {
+    let mut text = vec![0; twin::list(history, &mut []) as usize];
+    twin::list(history, &mut text);
+    print!("{}", String::from_utf8_lossy(&text));
+}
+
 fn main() {
     let checksums: [&[u8]; 5] = [&[], &[1], &[0, 1], &[255, 255], &[255, 255, 0, 1]];
     for bytes in checksums {
@@ -96,13 +100,13 @@ fn main() {
 
     let session = open(&mut history, 0);
     let written = write(session, &mut history, 14, b"four");
-    commit(written, &mut history, b"20240305T070000Z");
+    commit(written, &mut history, forge::TIME);
     show_page(&history, 1, 0);
     show_page(&history, 1, 16);
 
     let session = open(&mut history, 1);
     let written = write(session, &mut history, 20, b"!");
-    commit(written, &mut history, b"20240305T091500Z");
+    commit(written, &mut history, forge::LATER);
     show_index(&history, 2);
 
     show_bytes(&history, 1, 20, 1);
@@ -111,5 +115,5 @@ fn main() {
     show_bytes(&history, 1, 0, 20);
     show_bytes(&history, 2, 0, 21);
     say("check", twin::check(&history).number);
-    print!("{}", String::from_utf8_lossy(&twin::list(&history[..466])));
+    show_list(&history[..466]);
 }

@@ -93,22 +93,8 @@ fn join(first: u64, second: u64) -> u32 {
 #[cfg(test)]
 mod tests {
     use super::*;
-
-    /// The paper's sentences, taken word for word and slowly.
-    fn by_the_paper(bytes: &[u8]) -> u32 {
-        let (mut first, mut second) = (0_u128, 0_u128);
-        for pair in bytes.chunks(2) {
-            let low = pair.get(1).copied().unwrap_or(0);
-            first += u128::from(pair[0]) * 256 + u128::from(low);
-            second += first;
-        }
-        let sum = |total: u128| match (total, total % 65_535) {
-            (0, _) => 0,
-            (_, 0) => 65_535,
-            (_, rest) => rest,
-        };
-        (sum(second) * 65_536 + sum(first)) as u32
-    }
+    use forge::checksum as by_the_paper;
+    use forge::Random;
 
     #[test]
     fn folding_keeps_the_remainder_and_tells_zero_from_65535() {
@@ -134,12 +120,7 @@ mod tests {
 
     #[test]
     fn every_length_to_some_rows_and_around_the_blocks() {
-        let mut bytes = vec![0_u8; 3 * BLOCK + 70];
-        let mut x = 1_u32;
-        for byte in &mut bytes {
-            x = x.wrapping_mul(1_664_525).wrapping_add(1_013_904_223);
-            *byte = (x >> 24) as u8;
-        }
+        let bytes = Random::seeded(&[1]).bytes(3 * BLOCK + 70);
         let around = [1, 2, 3].map(|n| n * BLOCK - 70..n * BLOCK + 70);
         for length in (0..300).chain(around.into_iter().flatten()) {
             assert_eq!(

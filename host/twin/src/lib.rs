@@ -2,7 +2,7 @@
 //!
 //! Nothing here was taken from the proved store, so that where the two agree
 //! they agree because the paper says so. It is plain safe Rust over lent
-//! slices, allocates only for the text of [`list`], and serves as the
+//! slices, allocates only for the text of a [`list`], and serves as the
 //! benchmark's baseline too.
 //!
 //! Every function is total. A refusal is the number of its row in the paper's
@@ -12,7 +12,7 @@
 //! The modules follow the paper: `checksum` and `layout` are its chapter on the
 //! layout, `rows` its table of refusals, `view` its chapter on reading,
 //! `session` the one on a session, `history` creation, whole check and
-//! browsing, and `listing` the list program.
+//! browsing, and `listing` the list.
 
 #![forbid(unsafe_code)]
 
@@ -26,6 +26,6 @@ mod view;
 
 pub use checksum::checksum;
 pub use history::{browse, browse_step, check, create, Browsed, Checked, Step};
-pub use listing::list;
+pub use listing::{list, list_program};
 pub use session::{commit, open, release, session_read, write, Answer, Session};
 pub use view::{look_up, read, Found};

@@ -1,4 +1,4 @@
-//! What the list program prints.
+//! The list of a history: its text, and what the list program prints.
 
 use std::io::Write;
 
@@ -7,13 +7,35 @@ use crate::rows::{self, Row};
 /// Most bytes that the list program takes.
 const MOST: usize = 65_536;
 
-/// A line for the history and one for each revision, or the first fault alone.
-pub fn list(hist: &[u8]) -> Vec<u8> {
-    try_list(hist).unwrap_or_else(|row| format!("refused {}\n", row as u64).into_bytes())
+/// Puts the text of a history at the start of the lent buffer and answers the
+/// text's length. A buffer without room for all of it is left alone.
+pub fn list(hist: &[u8], out: &mut [u8]) -> u64 {
+    let text = text(hist);
+    if let Some(start) = out.get_mut(..text.len()) {
+        start.copy_from_slice(&text);
+    }
+    text.len() as u64
 }
 
-fn try_list(hist: &[u8]) -> Result<Vec<u8>, Row> {
-    rows::unless(hist.len() > MOST, Row::HistoryLength)?;
+/// What the list program prints of its input.
+pub fn list_program(input: &[u8]) -> Vec<u8> {
+    if input.len() > MOST {
+        refused(Row::HistoryLength)
+    } else {
+        text(input)
+    }
+}
+
+/// A line for the history and one for each revision, or the first fault alone.
+fn text(hist: &[u8]) -> Vec<u8> {
+    try_text(hist).unwrap_or_else(refused)
+}
+
+fn refused(row: Row) -> Vec<u8> {
+    format!("refused {}\n", row as u64).into_bytes()
+}
+
+fn try_text(hist: &[u8]) -> Result<Vec<u8>, Row> {
     let standing = rows::standing(hist)?;
     let header = &standing.header;
     let mut text = format!(

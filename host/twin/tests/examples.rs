@@ -2,6 +2,7 @@
 
 mod common;
 use common::*;
+use forge::{number_of_4, number_of_8, put_8, repair, Repair, LATER, NEWEST, TIME};
 use twin::*;
 
 #[test]
@@ -49,12 +50,12 @@ fn created_bytes() {
     assert_eq!(create(&mut hist, 20, 16, false), 0);
     assert_eq!(committed_end(&hist), 60);
     assert_eq!(&hist[..8], b"OHDH\x01\0\0\0");
-    assert_eq!(get32(&hist, 8), 16);
-    assert_eq!(get64(&hist, 12), 20);
-    assert_eq!((get64(&hist, 20), get64(&hist, 28)), (40, 20));
-    assert_eq!(get32(&hist, 36), checksum(&hist[..36]));
+    assert_eq!(number_of_4(&hist, 8), 16);
+    assert_eq!(number_of_8(&hist, 12), 20);
+    assert_eq!((number_of_8(&hist, 20), number_of_8(&hist, 28)), (40, 20));
+    assert_eq!(number_of_4(&hist, 36), checksum(&hist[..36]));
     assert_eq!(&hist[40..56], b"OWHR\x01\0\0\0\0\0\0\0\0\0\0\0");
-    assert_eq!(get32(&hist, 56), checksum(&hist[40..56]));
+    assert_eq!(number_of_4(&hist, 56), checksum(&hist[40..56]));
     assert!(hist[60..].iter().all(|&byte| byte == 0xEE));
 
     assert_eq!(create(&mut hist, 20, 16, true), 0);
@@ -94,19 +95,19 @@ fn two_revisions() {
     // The record, field by field.
     let bytes = &hist[92..221];
     assert_eq!(&bytes[..8], b"ORRS\x01\0\0\0");
-    assert_eq!((get64(bytes, 8), get64(bytes, 16)), (1, 0));
+    assert_eq!((number_of_8(bytes, 8), number_of_8(bytes, 16)), (1, 0));
     assert_eq!(&bytes[24..40], TIME);
-    assert_eq!((get64(bytes, 40), get32(bytes, 48)), (20, 16));
-    assert_eq!((get32(bytes, 52), get64(bytes, 56)), (1000, 2));
-    assert_eq!((get32(bytes, 64), get32(bytes, 68)), (4, 1));
-    assert_eq!((get64(bytes, 72), get64(bytes, 80)), (0, 60));
-    assert_eq!(get32(bytes, 88), checksum(&hist[60..76]));
-    assert_eq!(get32(bytes, 92), checksum(&bytes[72..88]));
-    assert_eq!((get64(bytes, 96), get64(bytes, 104)), (16, 76));
-    assert_eq!(get32(bytes, 112), checksum(&hist[76..92]));
-    assert_eq!(get32(bytes, 116), checksum(&bytes[96..112]));
+    assert_eq!((number_of_8(bytes, 40), number_of_4(bytes, 48)), (20, 16));
+    assert_eq!((number_of_4(bytes, 52), number_of_8(bytes, 56)), (1000, 2));
+    assert_eq!((number_of_4(bytes, 64), number_of_4(bytes, 68)), (4, 1));
+    assert_eq!((number_of_8(bytes, 72), number_of_8(bytes, 80)), (0, 60));
+    assert_eq!(number_of_4(bytes, 88), checksum(&hist[60..76]));
+    assert_eq!(number_of_4(bytes, 92), checksum(&bytes[72..88]));
+    assert_eq!((number_of_8(bytes, 96), number_of_8(bytes, 104)), (16, 76));
+    assert_eq!(number_of_4(bytes, 112), checksum(&hist[76..92]));
+    assert_eq!(number_of_4(bytes, 116), checksum(&bytes[96..112]));
     assert_eq!(&bytes[120..125], b"ana\0\0");
-    assert_eq!(get32(bytes, 125), checksum(&bytes[..125]));
+    assert_eq!(number_of_4(bytes, 125), checksum(&bytes[..125]));
 
     let st = accepted(open(&orig, &mut hist, 1));
     let st = accepted(write(st, &orig, &mut hist, 20, b"e"));
@@ -176,27 +177,88 @@ fn the_list() {
     let text = "pages 16 original 20 revisions 2 lock no branch no\n\
                 1 0 20240305T070000Z 20 2 ana\n\
                 2 1 20240305T091500Z 21 2 ana\n";
-    assert_eq!(list(&hist[..466]), text.as_bytes());
-    assert_eq!(list(&hist), text.as_bytes());
-    assert_eq!(list(&hist[..465]), b"refused 5\n");
+    assert_eq!(listed(&hist[..466]), text.as_bytes());
+    assert_eq!(listed(&hist), text.as_bytes());
+    assert_eq!(listed(&hist[..465]), b"refused 5\n");
+    assert_eq!(list_program(&hist[..466]), text.as_bytes());
+    assert_eq!(list_program(&hist[..465]), b"refused 5\n");
 
     accepted(open(&orig, &mut hist, NEWEST));
-    assert_eq!(list(&hist), text.replace("lock no", "lock yes").as_bytes());
+    let locked = text.replace("lock no", "lock yes");
+    assert_eq!(listed(&hist), locked.as_bytes());
 
     create(&mut hist, 0, 4096, true);
     assert_eq!(
-        list(&hist),
+        listed(&hist),
         b"pages 4096 original 0 revisions 0 lock no branch yes\n"
     );
 }
 
 #[test]
-fn a_history_of_the_longest_listed_length() {
-    let mut hist = vec![0; 65_537];
-    create(&mut hist, 0, 16, false);
-    assert_eq!(list(&hist), b"refused 1\n");
-    assert!(list(&hist[..65_536]).starts_with(b"pages 16 "));
+fn a_list_and_the_room_for_it() {
+    let (_, hist) = example();
+    let text = listed(&hist);
+    for room in 0..text.len() {
+        let mut out = vec![0xCC; room];
+        assert_eq!(list(&hist, &mut out), text.len() as u64);
+        assert!(out.iter().all(|&byte| byte == 0xCC), "{room}");
+    }
+    let mut out = vec![0xCC; text.len() + 9];
+    assert_eq!(list(&hist, &mut out), text.len() as u64);
+    assert_eq!(out, [&text[..], &[0xCC; 9]].concat());
+
+    // A refusal is a text as well.
+    let mut out = [0xCC; 12];
+    assert_eq!(list(&hist[..39], &mut out[..9]), 10);
+    assert_eq!(out, [0xCC; 12]);
+    assert_eq!(list(&hist[..39], &mut out), 10);
+    assert_eq!(&out, b"refused 1\n\xCC\xCC");
+}
+
+/// A history may be longer than what the list program takes.
+#[test]
+fn lists_of_long_histories() {
+    let mut hist = vec![0; LIMIT + 1];
+    create(&mut hist[..60], 0, 16, false);
+    let text = b"pages 16 original 0 revisions 0 lock no branch no\n";
+    for length in [65_536, 65_537, LIMIT] {
+        assert_eq!(listed(&hist[..length]), text, "{length}");
+    }
+    assert_eq!(listed(&hist), b"refused 1\n");
+    assert_eq!(list_program(&hist[..65_536]), text);
+    assert_eq!(list_program(&hist[..65_537]), b"refused 1\n");
+    assert_eq!(list_program(&hist), b"refused 1\n");
+}
+
+/// As many revisions as there may be, with the longest names.
+#[test]
+fn the_longest_list() {
+    let name = [[b'~'; 63].as_slice(), &[0]].concat();
+    let mut plan = forge::empty(4096, forge::LIMIT);
+    let mut at = 60;
+    for revision in 1..=1024 {
+        let mut record = forge::plain_record(revision, at, 4096, forge::LIMIT);
+        record.name = name.clone();
+        at = record.end();
+        plan.append(record);
+    }
+    plan.set_lock();
+    plan.allow_branching();
+    plan.ground = vec![0; plan.end() as usize];
+    let hist = plan.build();
     assert_eq!(check(&hist).number, 0);
+
+    let text = String::from_utf8(listed(&hist)).unwrap();
+    let mut lines = text.lines();
+    let first = "pages 4096 original 16777216 revisions 1024 lock yes branch yes";
+    assert_eq!(lines.next(), Some(first));
+    for revision in 1..=1024 {
+        let (parent, name) = (revision - 1, "~".repeat(63));
+        let line = format!("{revision} {parent} 20240305T070000Z 16777216 0 {name}");
+        assert_eq!(lines.next(), Some(&line[..]));
+    }
+    assert_eq!(lines.next(), None);
+    assert!(text.ends_with("~\n"));
 }
 
 #[test]
@@ -301,8 +363,8 @@ fn a_page_that_lies_nowhere() {
     // only if its size is forged, which the layout allows.
     revise(&orig, &mut hist, 0, &[(0, b"x")]);
     let at = record(&hist, 1).0;
-    put64(&mut hist, at + 40, 40);
-    seal_record(&mut hist, 1);
+    put_8(&mut hist, at + 40, 40);
+    repair(&mut hist, Repair::Records);
     assert_eq!(look_up(&orig, &hist, 1, 0).source, 1);
     assert_eq!(look_up(&orig, &hist, 1, 16).number, 20);
     assert_eq!(look_up(&orig, &hist, 1, 32).number, 20);
@@ -320,7 +382,7 @@ fn stored_bytes_past_the_parents_size() {
     let mut hist = vec![0; 4096];
     create(&mut hist, 20, 16, false);
     revise(&orig, &mut hist, 0, &[(16, b"x")]);
-    let page = get64(&hist, entry(&hist, 1, 0) + 8) as usize;
+    let page = number_of_8(&hist, entry(&hist, 1, 0) + 8) as usize;
     hist[page + 6] = 0x66;
     assert_eq!(
         check(&hist),
@@ -331,7 +393,7 @@ fn stored_bytes_past_the_parents_size() {
         }
     );
     assert_eq!(read(&orig, &hist, 1, 16, &mut [0]), 9);
-    seal_page(&mut hist, 1, 0);
+    repair(&mut hist, Repair::Pages);
 
     let mut st = accepted(open(&orig, &mut hist, 1));
     // First touched at size 20: zeros past it.
@@ -444,11 +506,11 @@ fn browsing() {
     // Counts whose 24-fold wraps round to what is there, or to little.
     let mut forged = record.to_vec();
     for count in [1 << 61, (1 << 61) + 2, u64::MAX, u64::MAX / 24 + 1] {
-        put64(&mut forged, 56, count);
+        put_8(&mut forged, 56, count);
         assert_eq!(browse_step(&forged, 0), step(7), "{count}");
     }
     // Nothing else is judged.
-    put64(&mut forged, 56, 1);
+    put_8(&mut forged, 56, 1);
     forged[0] = 0;
     assert_eq!(browse_step(&forged, 0).kind, 0);
     assert_eq!(browse_step(&forged, 1), step(1));

@@ -3,6 +3,7 @@
 
 mod common;
 use common::*;
+use forge::{repair, Random, Repair, NEWEST, TIME};
 use twin::*;
 
 /// A session's own idea of what it has written.
@@ -29,7 +30,7 @@ impl Model {
     }
 
     /// Each revision, read at once and in parts, by its index and by look-up.
-    fn assert_stored(&self, hist: &[u8], rng: &mut Rng) {
+    fn assert_stored(&self, hist: &[u8], random: &mut Random) {
         assert_eq!(
             check(hist),
             Checked {
@@ -44,8 +45,8 @@ impl Model {
             assert_eq!(read(&self.orig, hist, k, 0, &mut out), 0);
             assert!(&out == want, "revision {k}");
 
-            let from = rng.below(want.len() as u64 + 1);
-            let length = rng.below(want.len() as u64 - from + 1) as usize;
+            let from = random.below(want.len() as u64 + 1);
+            let length = random.below(want.len() as u64 - from + 1) as usize;
             let mut out = vec![0xCC; length];
             assert_eq!(read(&self.orig, hist, k, from, &mut out), 0);
             assert_eq!(out, want[from as usize..][..length]);
@@ -79,14 +80,8 @@ impl Model {
     }
 
     fn assert_listed(&self, hist: &[u8]) {
-        if hist.len() > 65_536 {
-            assert_eq!(list(hist), b"refused 1\n");
-        }
-        let end = committed_end(hist);
-        if end > 65_536 {
-            return;
-        }
-        let text = String::from_utf8(list(&hist[..end])).unwrap();
+        let text = String::from_utf8(listed(hist)).unwrap();
+        assert_eq!(listed(&hist[..committed_end(hist)]), text.as_bytes());
         let mut lines = text.lines();
         let yes = |flag| if flag { "yes" } else { "no" };
         let first = format!(
@@ -108,14 +103,14 @@ impl Model {
     }
 
     /// One random call, judged against what the model expects of it.
-    fn step(&mut self, hist: &mut [u8], rng: &mut Rng) {
+    fn step(&mut self, hist: &mut [u8], random: &mut Random) {
         let before = hist.to_vec();
         let newest = self.newest();
-        let choice = rng.below(10);
+        let choice = random.below(10);
         let Some(mut open) = self.open.take() else {
             let asked = match choice {
                 0..=4 => NEWEST,
-                _ => rng.below(newest as u64 + 2),
+                _ => random.below(newest as u64 + 2),
             };
             let parent = if asked == NEWEST {
                 newest
@@ -167,14 +162,14 @@ impl Model {
             }
             _ => {
                 let size = open.bytes.len() as u64;
-                let at = match rng.below(4) {
+                let at = match random.below(4) {
                     0 => size,
-                    1 => rng.below(size + 3),
-                    _ => rng.below(size + 1),
+                    1 => random.below(size + 3),
+                    _ => random.below(size + 1),
                 };
-                let most = rng.pick(&[1, 3, self.page, 5 * self.page, 20 * self.page]);
-                let length = rng.below(most + 1) as usize;
-                let data = rng.bytes(length);
+                let most = random.pick(&[1, 3, self.page, 5 * self.page, 20 * self.page]);
+                let length = random.below(most + 1) as usize;
+                let data = random.bytes(length);
                 let answer = write(open.session, &self.orig, hist, at, &data);
                 let end = open.session.end as usize;
                 if answer.number == 0 {
@@ -228,13 +223,13 @@ fn open_at(model: &Model, hist: &mut [u8], revision: u64) -> Answer {
 #[test]
 fn committed_revisions_read_the_same_for_ever() {
     for seed in 1..=60 {
-        let mut rng = Rng::seeded(seed);
-        let page = rng.pick(&[16, 16, 32, 64, 256, 4096]);
-        let length = rng.below(12 * page) as usize;
-        let room = rng.pick(&[2_000, 20_000, 60_000, 400_000]);
-        let mut hist = rng.bytes(room);
-        let orig = rng.bytes(length);
-        let branching = rng.below(2) == 1;
+        let mut random = Random::seeded(&[seed]);
+        let page = random.pick(&[16, 16, 32, 64, 256, 4096]);
+        let length = random.below(12 * page) as usize;
+        let room = random.pick(&[2_000, 20_000, 60_000, 400_000]);
+        let mut hist = random.bytes(room);
+        let orig = random.bytes(length);
+        let branching = random.below(2) == 1;
         assert_eq!(create(&mut hist, length as u64, page, branching), 0);
         let mut model = Model {
             revisions: vec![orig.clone()],
@@ -246,115 +241,50 @@ fn committed_revisions_read_the_same_for_ever() {
         };
         for turn in 0..150 {
             let revisions = model.revisions.len();
-            model.step(&mut hist, &mut rng);
+            model.step(&mut hist, &mut random);
             if model.revisions.len() != revisions || turn % 30 == 0 {
-                model.assert_stored(&hist, &mut rng);
+                model.assert_stored(&hist, &mut random);
                 model.assert_listed(&hist);
             }
         }
     }
 }
 
-/// The numbers at which something happens.
-const EDGES: [u64; 23] = [
-    0,
-    1,
-    2,
-    3,
-    15,
-    16,
-    40,
-    59,
-    60,
-    76,
-    1024,
-    4096,
-    4097,
-    1 << 24,
-    (1 << 24) + 1,
-    1 << 31,
-    1 << 32,
-    1 << 61,
-    (1 << 61) + 2,
-    1 << 63,
-    u64::MAX - 16,
-    u64::MAX - 15,
-    u64::MAX,
-];
-
 /// Damages a right history in one or two places, and mostly makes the
 /// checksums right again, so that what lies behind them is reached.
-fn damage(hist: &mut [u8], rng: &mut Rng) {
-    // Where the fields are, while the history still says so.
-    let count = get64(hist, whole(hist).0 + 8);
-    let mut long = vec![12, 20, 28, whole(hist).0 + 8];
-    let mut short = vec![4, 8];
-    for k in 1..=count {
-        long.extend([0, 8].map(|field| location(hist, k) + field));
-        long.extend([8, 16, 40, 56].map(|field| record(hist, k).0 + field));
-        short.extend([4, 48, 64, 68].map(|field| record(hist, k).0 + field));
-        for i in 0..index(hist, k).len() {
-            long.extend([0, 8].map(|field| entry(hist, k, i) + field));
-            short.push(entry(hist, k, i) + 16);
-        }
-    }
-    for _ in 0..=rng.below(2) {
-        let edge = rng.pick(&EDGES);
-        let value = match rng.below(3) {
-            0 => edge,
-            1 => edge.wrapping_add(rng.below(40)).wrapping_sub(20),
-            _ => rng.next(),
-        };
-        match rng.below(4) {
-            0 | 1 => put64(hist, rng.pick(&long), value),
-            2 => put32(hist, rng.pick(&short), value as u32),
+fn damage(hist: &mut [u8], random: &mut Random) {
+    // Where the numbers are, while the history still says so.
+    let mut numbers = forge::fields(hist);
+    numbers.retain(|field| field.len() >= 4);
+    for _ in 0..=random.below(2) {
+        match random.below(4) {
+            0 => {
+                let at = random.below(hist.len() as u64) as usize;
+                hist[at] ^= 1 << random.below(8);
+            }
             _ => {
-                let at = rng.below(hist.len() as u64) as usize;
-                hist[at] ^= 1 << rng.below(8);
+                let place = random.below(numbers.len() as u64) as usize;
+                forge::change(random, &mut hist[numbers[place].clone()]);
             }
         }
     }
-    if rng.below(4) > 0 {
-        seal_what_is_there(hist);
-    }
-    if rng.below(16) > 0 {
-        seal_header(hist);
-    }
-}
-
-/// Makes right the checksums of all parts that still lie in the history. Parts
-/// may overlap by now, so nothing is read twice and thought to be the same.
-fn seal_what_is_there(hist: &mut [u8]) {
-    let seal = |hist: &mut [u8], at: usize, length: usize, place: usize| {
-        let sum = checksum(&hist[at..at + length]);
-        put32(hist, place, sum);
+    let depth = match random.below(16) {
+        0 => Repair::Nothing,
+        1..=3 => Repair::Header,
+        _ => Repair::Entries,
     };
-    let (at, size) = whole(hist);
-    if size < 20 || at.saturating_add(size) > hist.len() {
-        return;
-    }
-    for location in (at + 16..at + size - 4).step_by(20) {
-        if location + 20 > hist.len() {
-            continue;
-        }
-        let record = get64(hist, location) as usize;
-        let length = get64(hist, location + 8) as usize;
-        if length >= 76 && record.saturating_add(length) <= hist.len() {
-            let entries = get64(hist, record + 56).min((length as u64 - 76) / 24);
-            for i in 0..entries as usize {
-                let entry = record + 72 + 24 * i;
-                seal(hist, entry, 16, entry + 20);
-            }
-            seal(hist, record, length - 4, record + length - 4);
-        }
-        seal(hist, location, 16, location + 16);
-    }
-    seal(hist, at, size - 4, at + size - 4);
+    repair(hist, depth);
 }
 
 /// Makes every call on whatever history and session; each is total, and a
 /// refusal changes nothing.
-fn all_calls(orig: &[u8], hist: &[u8], session: Session, rng: &mut Rng, seen: &mut [u64; 21]) {
+fn all_calls(
+    orig: &[u8],
+    hist: &[u8],
+    session: Session,
+    random: &mut Random,
+    seen: &mut [u64; 21],
+) {
     let end = hist.len() as u64;
     let odd = [
         0,
@@ -369,14 +299,18 @@ fn all_calls(orig: &[u8], hist: &[u8], session: Session, rng: &mut Rng, seen: &m
         u64::MAX - 3,
         u64::MAX,
     ];
-    let revision = rng.pick(&[0, 1, 2, 3, 4, u64::MAX - 1, u64::MAX]);
-    let at = rng.pick(&odd);
-    let length = rng.below(70) as usize;
+    let revision = random.pick(&[0, 1, 2, 3, 4, u64::MAX - 1, u64::MAX]);
+    // Often a page's address, which a look-up asks for.
+    let at = match random.below(2) {
+        0 => random.pick(&odd),
+        _ => 16 * random.below(4),
+    };
+    let length = random.below(70) as usize;
     let mut see = |number: u64| seen[number as usize] += 1;
 
     let checked = check(hist);
     see(checked.number);
-    let text = list(hist);
+    let text = listed(hist);
     match checked.number {
         0 => assert!(text.starts_with(b"pages ")),
         // The list looks at no page, and so goes on to the records after it.
@@ -388,10 +322,10 @@ fn all_calls(orig: &[u8], hist: &[u8], session: Session, rng: &mut Rng, seen: &m
     see(found.number);
     if found.number == 0 {
         let record = &hist[found.offset as usize..][..found.length as usize];
-        let place = rng.pick(&odd);
+        let place = random.pick(&odd);
         assert!(browse_step(record, place).kind <= 1);
     }
-    let start = rng.below(end) as usize;
+    let start = random.below(end) as usize;
     let kind = browse_step(&hist[start..], at).kind;
     assert!(matches!(kind, 0 | 1 | 7));
 
@@ -441,46 +375,46 @@ fn all_calls(orig: &[u8], hist: &[u8], session: Session, rng: &mut Rng, seen: &m
 fn every_call_is_total_and_refusals_change_nothing() {
     let mut seen = [0; 21];
     for seed in 1..=6000 {
-        let mut rng = Rng::seeded(seed);
-        let orig = rng.bytes(40);
-        let mut hist = rng.bytes(2048);
+        let mut random = Random::seeded(&[seed]);
+        let orig = random.bytes(40);
+        let mut hist = random.bytes(2048);
         create(&mut hist, 40, 16, true);
         revise(&orig, &mut hist, 0, &[(14, b"abcd")]);
         revise(&orig, &mut hist, 1, &[(32, b"ef"), (39, b"grow")]);
         revise(&orig, &mut hist, 1, &[(16, b"gh")]);
         let mut session = ENDED;
-        if rng.below(4) > 0 {
-            let parent = rng.below(4);
+        if random.below(4) > 0 {
+            let parent = random.below(4);
             session = accepted(open(&orig, &mut hist, parent));
             let size = session.size;
             session = accepted(write(session, &orig, &mut hist, size - 9, b"tail"));
             session = accepted(write(session, &orig, &mut hist, size - 30, b"head"));
         }
-        if rng.below(8) > 0 {
-            damage(&mut hist, &mut rng);
+        if random.below(8) > 0 {
+            damage(&mut hist, &mut random);
         }
-        if rng.below(3) == 0 {
-            let value = rng.pick(&[0, 1, 16, 47, 257, 1 << 24, 1 << 61, u64::MAX]);
-            match rng.below(6) {
+        if random.below(3) == 0 {
+            let value = random.pick(&[0, 1, 16, 47, 257, 1 << 24, 1 << 61, u64::MAX]);
+            match random.below(6) {
                 0 => session.end = session.end.wrapping_add(value),
                 1 => session.count = value,
                 2 => session.parent = value,
                 3 => session.size = value,
                 4 => session.n = value,
-                _ => session.pages[rng.below(3) as usize] = value as u32,
+                _ => session.pages[random.below(3) as usize] = value as u32,
             }
         }
-        let lent = match rng.below(6) {
-            0 => rng.below(2049) as usize,
+        let lent = match random.below(6) {
+            0 => random.below(2049) as usize,
             _ => 2048,
         };
-        let original = if rng.below(12) == 0 {
+        let original = if random.below(12) == 0 {
             &orig[1..]
         } else {
             &orig
         };
         if lent > 0 {
-            all_calls(original, &hist[..lent], session, &mut rng, &mut seen);
+            all_calls(original, &hist[..lent], session, &mut random, &mut seen);
         }
     }
     // The damage reaches the rows that it can: not 12 (branching is on), 14,

@@ -7,6 +7,7 @@
 
 mod common;
 use common::*;
+use forge::{number_of_8, put_4, put_8, repair, Entry, Plan, Repair, NEWEST, TIME};
 use std::sync::OnceLock;
 use twin::*;
 
@@ -127,7 +128,7 @@ fn call_check(s: &mut Scene) -> u64 {
 }
 
 fn call_list(s: &mut Scene) -> u64 {
-    let text = String::from_utf8(list(&s.hist[..s.lent])).unwrap();
+    let text = String::from_utf8(listed(&s.hist[..s.lent])).unwrap();
     match text.strip_prefix("refused ") {
         Some(number) => number.strip_suffix('\n').unwrap().parse().unwrap(),
         None => {
@@ -183,17 +184,17 @@ const F8: Fault = (8, |s| {
     s.hist[at + size - 1] ^= 1;
 });
 const F9: Fault = (9, |s| {
-    let page = get64(&s.hist, entry(&s.hist, s.revision, 0) + 8);
+    let page = number_of_8(&s.hist, entry(&s.hist, s.revision, 0) + 8);
     s.hist[page as usize + 15] ^= 1;
 });
 const F10: Fault = (10, |s| s.at = 6000);
 const F11: Fault = (11, |s| {
     s.hist[5] |= 1;
-    seal_header(&mut s.hist);
+    repair(&mut s.hist, Repair::Header);
 });
 const F12: Fault = (12, |s| {
     s.hist[5] &= !2;
-    seal_header(&mut s.hist);
+    repair(&mut s.hist, Repair::Header);
 });
 const F13: Fault = (13, |s| s.session.end += 1);
 const F13_LAST: Fault = (13, |s| s.session.size = 5001);
@@ -244,8 +245,8 @@ fn order_of_looking_up() {
     // to 6,000 bytes, the revision has pages that lie nowhere.
     let mut grown = scene(false);
     let at = record(&grown.hist, 2).0;
-    put64(&mut grown.hist, at + 40, 6000);
-    seal_record(&mut grown.hist, 2);
+    put_8(&mut grown.hist, at + 40, 6000);
+    repair(&mut grown.hist, Repair::Records);
     grown.at = 4976;
     let f10: Fault = (10, |s| s.at = 5001);
     let f20: Fault = (20, |s| s.at = 5008);
@@ -344,7 +345,7 @@ fn order_of_the_whole_check() {
     s.revision = 3;
     // Revision 1's pages are in revision 3 as well; its own is the last.
     let f9: Fault = (9, |s| {
-        let page = get64(&s.hist, entry(&s.hist, 3, 2) + 8);
+        let page = number_of_8(&s.hist, entry(&s.hist, 3, 2) + 8);
         s.hist[page as usize] ^= 1;
     });
     ladder(&s, &[F1, F2, F3, F5, F7, F8, f9], call_check);
@@ -352,7 +353,7 @@ fn order_of_the_whole_check() {
     // All of revision k comes before k + 1: a page of 1 before the record of 2.
     let mut s = scene(false);
     F7.1(&mut s);
-    let page = get64(&s.hist, entry(&s.hist, 1, 1) + 8) as usize;
+    let page = number_of_8(&s.hist, entry(&s.hist, 1, 1) + 8) as usize;
     s.hist[page] ^= 1;
     let fault = |number, revision, entry| Checked {
         number,
@@ -366,11 +367,11 @@ fn order_of_the_whole_check() {
     let mut s = scene(false);
     let (first, last) = (entry(&s.hist, 2, 0), entry(&s.hist, 2, 3));
     s.hist[last + 20] ^= 1;
-    put32(&mut s.hist, first + 16, 0x1234_5678);
-    seal_record(&mut s.hist, 2);
+    put_4(&mut s.hist, first + 16, 0x1234_5678);
+    repair(&mut s.hist, Repair::Records);
     assert_eq!(check(&s.hist), fault(8, 2, 0));
     s.hist[last + 20] ^= 1;
-    seal_record(&mut s.hist, 2);
+    repair(&mut s.hist, Repair::Records);
     assert_eq!(check(&s.hist), fault(9, 2, 0));
 }
 
@@ -385,7 +386,7 @@ fn order_of_listing() {
     F7.1(&mut s);
     // Record after record: revision 2's 8 before revision 3's 7.
     assert_eq!(call_list(&mut s), 8);
-    assert_eq!(list(&[]), b"refused 1\n");
+    assert_eq!(listed(&[]), b"refused 1\n");
 }
 
 #[test]
@@ -427,21 +428,21 @@ fn row_2() {
         |h| h[6] = 128,
         |h| h[7] = 1,
         |h| h[7] = 128,
-        |h| put32(h, 8, 0),
-        |h| put32(h, 8, 8),
-        |h| put32(h, 8, 24),
-        |h| put32(h, 8, 8192),
-        |h| put32(h, 8, u32::MAX),
-        |h| put32(h, 8, 1 << 31),
-        |h| put64(h, 12, LIMIT as u64 + 1),
-        |h| put64(h, 12, 1 << 63),
-        |h| put64(h, 12, u64::MAX),
+        |h| put_4(h, 8, 0),
+        |h| put_4(h, 8, 8),
+        |h| put_4(h, 8, 24),
+        |h| put_4(h, 8, 8192),
+        |h| put_4(h, 8, u32::MAX),
+        |h| put_4(h, 8, 1 << 31),
+        |h| put_8(h, 12, LIMIT as u64 + 1),
+        |h| put_8(h, 12, 1 << 63),
+        |h| put_8(h, 12, u64::MAX),
     ];
     for fault in faults {
         let mut s = scene(false);
         fault(&mut s.hist);
         all_answer(&s, 2);
-        seal_header(&mut s.hist);
+        repair(&mut s.hist, Repair::Header);
         all_answer(&s, 2);
     }
 }
@@ -485,9 +486,9 @@ fn row_5() {
     ];
     for (at, size) in fields {
         let mut s = scene(false);
-        put64(&mut s.hist, 20, at);
-        put64(&mut s.hist, 28, size);
-        seal_header(&mut s.hist);
+        put_8(&mut s.hist, 20, at);
+        put_8(&mut s.hist, 28, size);
+        repair(&mut s.hist, Repair::Header);
         all_answer(&s, 5);
     }
     let faults: [fn(&mut [u8]); 12] = [
@@ -497,11 +498,11 @@ fn row_5() {
         |w| w[5] = 1,
         |w| w[6] = 1,
         |w| w[7] = 1,
-        |w| put64(w, 8, 2),
-        |w| put64(w, 8, 4),
+        |w| put_8(w, 8, 2),
+        |w| put_8(w, 8, 4),
         // 20 times this wraps round to 60.
-        |w| put64(w, 8, 3 + (1 << 62)),
-        |w| put64(w, 8, u64::MAX),
+        |w| put_8(w, 8, 3 + (1 << 62)),
+        |w| put_8(w, 8, u64::MAX),
         |w| w[32] ^= 1,
         |w| w[75] ^= 1,
     ];
@@ -510,8 +511,7 @@ fn row_5() {
         let (at, size) = whole(&s.hist);
         fault(&mut s.hist[at..at + size]);
         all_answer(&s, 5);
-        let sum = checksum(&s.hist[at..at + size - 4]);
-        put32(&mut s.hist, at + size - 4, sum);
+        repair(&mut s.hist, Repair::WholeHistory);
         all_answer(&s, 5);
     }
     // Its own checksum, and a count over 1,024 with all else right.
@@ -519,19 +519,10 @@ fn row_5() {
     let end = committed_end(&s.hist);
     s.hist[end - 1] ^= 1;
     all_answer(&s, 5);
-    let mut s = scene(false);
-    s.hist.resize(65_536, 0);
-    s.lent = s.hist.len();
-    let at = committed_end(&s.hist);
     for (count, number) in [(1025, 5), (1024, 7)] {
-        let size = 20 + 20 * count;
-        put64(&mut s.hist, 20, at as u64);
-        put64(&mut s.hist, 28, size as u64);
-        seal_header(&mut s.hist);
-        s.hist[at..at + 8].copy_from_slice(b"OWHR\x01\0\0\0");
-        put64(&mut s.hist, at + 8, count as u64);
-        seal_whole(&mut s.hist);
-        assert_eq!(check(&s.hist).number, number);
+        let mut plan = forge::empty(16, 0);
+        plan.idle_locations = count;
+        assert_eq!(check(&built(plan, 65_536)).number, number);
     }
 }
 
@@ -576,11 +567,11 @@ fn row_7_in_the_record() {
         |r| r[5] = 1,
         |r| r[6] = 1,
         |r| r[7] = 1,
-        |r| put64(r, 8, 1),
-        |r| put64(r, 8, 3),
-        |r| put64(r, 16, 2),
-        |r| put64(r, 16, 3),
-        |r| put64(r, 16, u64::MAX),
+        |r| put_8(r, 8, 1),
+        |r| put_8(r, 8, 3),
+        |r| put_8(r, 16, 2),
+        |r| put_8(r, 16, 3),
+        |r| put_8(r, 16, u64::MAX),
         // Time.
         |r| r[24] = b'/',
         |r| r[27] = b':',
@@ -596,62 +587,62 @@ fn row_7_in_the_record() {
         |r| r[38] = 0,
         |r| r[39] = b'z',
         // Logical size: below the original's, at an entry, past the limit.
-        |r| put64(r, 40, 4999),
-        |r| put64(r, 40, 0),
-        |r| put64(r, 40, LIMIT as u64 + 1),
-        |r| put64(r, 40, u64::MAX),
-        |r| put32(r, 48, 32),
-        |r| put32(r, 48, 0),
+        |r| put_8(r, 40, 4999),
+        |r| put_8(r, 40, 0),
+        |r| put_8(r, 40, LIMIT as u64 + 1),
+        |r| put_8(r, 40, u64::MAX),
+        |r| put_4(r, 48, 32),
+        |r| put_4(r, 48, 0),
         // Counts, also such as wrap round to the right size.
-        |r| put64(r, 56, 3),
-        |r| put64(r, 56, 5),
-        |r| put64(r, 56, 4 + (1 << 61)),
-        |r| put64(r, 56, 4097),
-        |r| put64(r, 56, u64::MAX),
-        |r| put32(r, 64, 3),
-        |r| put32(r, 64, 5),
-        |r| put32(r, 64, u32::MAX),
-        |r| put32(r, 68, 0),
-        |r| put32(r, 68, 2),
-        |r| put32(r, 68, u32::MAX),
+        |r| put_8(r, 56, 3),
+        |r| put_8(r, 56, 5),
+        |r| put_8(r, 56, 4 + (1 << 61)),
+        |r| put_8(r, 56, 4097),
+        |r| put_8(r, 56, u64::MAX),
+        |r| put_4(r, 64, 3),
+        |r| put_4(r, 64, 5),
+        |r| put_4(r, 64, u32::MAX),
+        |r| put_4(r, 68, 0),
+        |r| put_4(r, 68, 2),
+        |r| put_4(r, 68, u32::MAX),
         // The right size in all, but name or comment none or badly closed.
         |r| {
-            put32(r, 64, 0);
-            put32(r, 68, 5)
+            put_4(r, 64, 0);
+            put_4(r, 68, 5)
         },
         |r| {
-            put32(r, 64, 5);
-            put32(r, 68, 0)
+            put_4(r, 64, 5);
+            put_4(r, 68, 0)
         },
         |r| {
-            put32(r, 64, 3);
-            put32(r, 68, 2)
+            put_4(r, 64, 3);
+            put_4(r, 68, 2)
         },
         |r| {
-            put64(r, 56, 3);
-            put32(r, 64, 28)
+            put_8(r, 56, 3);
+            put_4(r, 64, 28)
         },
         |r| {
-            put64(r, 56, 3);
-            put32(r, 68, 25)
+            put_8(r, 56, 3);
+            put_4(r, 68, 25)
         },
         // Entries at 72, 96, 120 and 144; name at 168, comment at 172.
-        |r| put64(r, 72, 1),
-        |r| put64(r, 72, 8),
-        |r| put64(r, 72, 16),
-        |r| put64(r, 72, 32),
-        |r| put64(r, 96, 0),
-        |r| put64(r, 96, 24),
-        |r| put64(r, 144, 32),
-        |r| put64(r, 144, 5008),
-        |r| put64(r, 144, u64::MAX - 15),
-        |r| put64(r, 144, u64::MAX),
-        |r| put64(r, 80, 0),
-        |r| put64(r, 80, 59),
-        |r| put64(r, 80, 40),
-        |r| put64(r, 80, u64::MAX),
-        |r| put64(r, 80, u64::MAX - 15),
-        |r| put64(r, 80, u64::MAX - 16),
+        |r| put_8(r, 72, 1),
+        |r| put_8(r, 72, 8),
+        |r| put_8(r, 72, 16),
+        |r| put_8(r, 72, 32),
+        |r| put_8(r, 96, 0),
+        |r| put_8(r, 96, 24),
+        |r| put_8(r, 144, 32),
+        |r| put_8(r, 144, 5008),
+        |r| put_8(r, 144, u64::MAX - 15),
+        |r| put_8(r, 144, u64::MAX),
+        |r| put_8(r, 80, 0),
+        |r| put_8(r, 80, 59),
+        |r| put_8(r, 80, 40),
+        |r| put_8(r, 80, u64::MAX),
+        |r| put_8(r, 80, u64::MAX - 15),
+        |r| put_8(r, 80, u64::MAX - 16),
         |r| r[168] = 0,
         |r| r[169] = 0x1F,
         |r| r[170] = 0x7F,
@@ -673,9 +664,7 @@ fn row_7_in_the_record() {
             },
             "{i}"
         );
-        for i in 0..4 {
-            seal_entry(&mut s.hist, 2, i);
-        }
+        repair(&mut s.hist, Repair::Entries);
         assert_eq!(
             check(&s.hist),
             Checked {
@@ -694,9 +683,9 @@ fn row_7_in_the_record() {
     for (back, number) in [(16, 9), (15, 7), (0, 7)] {
         let mut s = scene(false);
         let (at, _) = record(&s.hist, 2);
-        put64(&mut s.hist, at + 72 + 8, (at - back) as u64);
+        put_8(&mut s.hist, at + 72 + 8, (at - back) as u64);
         s.hist[at - back] ^= 0xFF;
-        seal_entry(&mut s.hist, 2, 0);
+        repair(&mut s.hist, Repair::Entries);
         assert_eq!(check(&s.hist).number, number, "{back}");
     }
 }
@@ -705,13 +694,13 @@ fn row_7_in_the_record() {
 #[test]
 fn not_row_7() {
     let fine: &[fn(&mut [u8])] = &[
-        |r| put64(r, 16, 0),
+        |r| put_8(r, 16, 0),
         |r| r[24..40].copy_from_slice(b"00000101T000000Z"),
         |r| r[24..40].copy_from_slice(b"99991231T235959Z"),
         |r| r[24..40].copy_from_slice(b"20230231T235959Z"),
-        |r| put64(r, 40, 4993),
-        |r| put64(r, 40, LIMIT as u64),
-        |r| put32(r, 52, u32::MAX),
+        |r| put_8(r, 40, 4993),
+        |r| put_8(r, 40, LIMIT as u64),
+        |r| put_4(r, 52, u32::MAX),
         |r| r[168..171].copy_from_slice(b" ~ "),
     ];
     for (i, change) in fine.iter().enumerate() {
@@ -719,7 +708,7 @@ fn not_row_7() {
         let (at, size) = record(&s.hist, 2);
         change(&mut s.hist[at..at + size]);
         assert_eq!(check(&s.hist).number, if i == 4 { 7 } else { 8 }, "{i}");
-        seal_record(&mut s.hist, 2);
+        repair(&mut s.hist, Repair::Records);
         // 4993 is above the last entry, but below the original's length.
         assert_eq!(check(&s.hist).number, if i == 4 { 7 } else { 0 }, "{i}");
     }
@@ -732,26 +721,26 @@ fn not_row_7() {
 #[test]
 fn row_7_in_the_location() {
     let faults: &[fn(&mut [u8], u64)] = &[
-        |l, _| put64(l, 0, 0),
-        |l, _| put64(l, 0, 59),
-        |l, _| put64(l, 0, u64::MAX),
-        |l, _| put64(l, 0, u64::MAX - 10),
-        |l, _| put64(l, 8, 0),
-        |l, _| put64(l, 8, 75),
-        |l, _| put64(l, 8, 76),
-        |l, _| put64(l, 8, 178),
-        |l, _| put64(l, 8, u64::MAX),
-        |l, whole| put64(l, 0, whole),
-        |l, whole| put64(l, 0, whole - 60),
-        |l, whole| put64(l, 0, whole - 176),
-        |l, whole| put64(l, 8, whole),
+        |l, _| put_8(l, 0, 0),
+        |l, _| put_8(l, 0, 59),
+        |l, _| put_8(l, 0, u64::MAX),
+        |l, _| put_8(l, 0, u64::MAX - 10),
+        |l, _| put_8(l, 8, 0),
+        |l, _| put_8(l, 8, 75),
+        |l, _| put_8(l, 8, 76),
+        |l, _| put_8(l, 8, 178),
+        |l, _| put_8(l, 8, u64::MAX),
+        |l, whole| put_8(l, 0, whole),
+        |l, whole| put_8(l, 0, whole - 60),
+        |l, whole| put_8(l, 0, whole - 176),
+        |l, whole| put_8(l, 8, whole),
     ];
     for (i, fault) in faults.iter().enumerate() {
         let mut s = scene(false);
         let at = location(&s.hist, 2);
         let start = whole(&s.hist).0;
         fault(&mut s.hist[at..at + 20], start as u64);
-        seal_whole(&mut s.hist);
+        repair(&mut s.hist, Repair::Locations);
         assert_eq!(
             check(&s.hist),
             Checked {
@@ -766,59 +755,41 @@ fn row_7_in_the_location() {
     // A whole record that stands at 59, or that ends past the whole history's
     // start, is right in all but that.
     for (at, number) in [(60, 0), (59, 7), (58, 7)] {
-        let bytes = bare_record();
-        let mut hist = vec![0; 512];
-        create(&mut hist, 0, 16, false);
-        hist[at..at + bytes.len()].copy_from_slice(&bytes);
-        write_whole(&mut hist, at + bytes.len(), at as u64, bytes.len() as u64);
-        assert_eq!(check(&hist).number, number, "{at}");
+        let mut plan = forge::empty(16, 0);
+        plan.append(forge::plain_record(1, at, 16, 0));
+        assert_eq!(check(&built(plan, 512)).number, number, "{at}");
     }
-    let bytes = bare_record();
-    let mut hist = vec![0; 512];
-    create(&mut hist, 0, 16, false);
-    write_whole(&mut hist, 60, 200, bytes.len() as u64);
-    hist[200..200 + bytes.len()].copy_from_slice(&bytes);
-    assert_eq!(check(&hist).number, 7);
-    write_whole(&mut hist, 400, 200, bytes.len() as u64);
-    assert_eq!(check(&hist).number, 0);
-    write_whole(&mut hist, 200 + bytes.len(), 200, bytes.len() as u64);
-    assert_eq!(check(&hist).number, 0);
+    let mut plan = forge::empty(16, 0);
+    plan.append(forge::plain_record(1, 200, 16, 0));
+    for (whole_at, number) in [(60, 7), (400, 0), (plan.whole_at, 0)] {
+        let mut plan = plan.clone();
+        plan.whole_at = whole_at;
+        assert_eq!(check(&built(plan, 512)).number, number, "{whole_at}");
+    }
 }
 
-/// Revision 1 of an empty original with pages of 16, without entries.
-fn bare_record() -> Vec<u8> {
-    let mut hist = vec![0; 512];
-    create(&mut hist, 0, 16, false);
-    revise(&[], &mut hist, 0, &[]);
-    let (at, size) = record(&hist, 1);
-    hist[at..at + size].to_vec()
+/// The history of a plan in a buffer of so many zeros.
+fn built(mut plan: Plan, room: usize) -> Vec<u8> {
+    plan.ground = vec![0; room];
+    plan.build()
 }
 
 /// A history of one revision with so many entries, its texts so long.
-fn sized(entries: usize, name: usize, comment: usize) -> Vec<u8> {
-    let mut bytes = bare_record()[..56].to_vec();
-    put64(&mut bytes, 40, LIMIT as u64);
-    bytes.extend((entries as u64).to_le_bytes());
-    bytes.extend((name as u32).to_le_bytes());
-    bytes.extend((comment as u32).to_le_bytes());
-    let page = checksum(&[0; 16]).to_le_bytes();
-    for i in 0..entries as u64 {
-        let addresses = [(16 * i).to_le_bytes(), 100_u64.to_le_bytes()].concat();
-        bytes.extend(&addresses);
-        bytes.extend(page);
-        bytes.extend(checksum(&addresses).to_le_bytes());
-    }
-    for length in [name, comment] {
-        bytes.resize(bytes.len() + length.saturating_sub(1), b'x');
-        bytes.resize(bytes.len() + length.min(1), 0);
-    }
-    bytes.extend(checksum(&bytes).to_le_bytes());
-
-    let mut hist = vec![0; 131_072];
-    create(&mut hist, 0, 16, false);
-    hist[200..200 + bytes.len()].copy_from_slice(&bytes);
-    write_whole(&mut hist, 200 + bytes.len(), 200, bytes.len() as u64);
-    hist
+fn sized(entries: u64, name: usize, comment: usize) -> Vec<u8> {
+    let text = |length: usize| {
+        let mut text = vec![b'x'; length];
+        if let Some(last) = text.last_mut() {
+            *last = 0;
+        }
+        text
+    };
+    let mut record = forge::plain_record(1, 200, 16, forge::LIMIT);
+    record.entries = (0..entries).map(|i| Entry::new(16 * i, 100)).collect();
+    record.name = text(name);
+    record.comment = text(comment);
+    let mut plan = forge::empty(16, 0);
+    plan.append(record);
+    built(plan, 131_072)
 }
 
 #[test]
@@ -840,32 +811,17 @@ fn row_7_has_the_sizes_allowed() {
 /// A whole history that starts in the header's last byte, right in all else.
 #[test]
 fn row_5_has_the_header_in_front() {
-    let mut hist = vec![0; 60];
-    create(&mut hist, 0, 16, false);
-    put64(&mut hist, 20, 39);
     // Some length's checksum ends in the signature's first letter.
-    for original in 0..LIMIT as u64 {
-        put64(&mut hist, 12, original);
-        seal_header(&mut hist);
-        if hist[39] == b'O' {
-            break;
-        }
-    }
-    hist[40..55].copy_from_slice(b"WHR\x01\0\0\0\0\0\0\0\0\0\0\0");
-    seal_whole(&mut hist);
+    let hist = (0..LIMIT as u64)
+        .map(|original| {
+            let mut plan = forge::empty(16, original);
+            plan.whole_at = 39;
+            plan.build()
+        })
+        .find(|hist| hist[39] == b'O')
+        .unwrap();
     assert_eq!(&hist[39..43], b"OWHR");
     assert_eq!(check(&hist).number, 5);
-}
-
-/// Puts a whole history of one location at an address.
-fn write_whole(hist: &mut [u8], at: usize, record: u64, size: u64) {
-    put64(hist, 20, at as u64);
-    put64(hist, 28, 40);
-    seal_header(hist);
-    hist[at..at + 16].copy_from_slice(b"OWHR\x01\0\0\0\x01\0\0\0\0\0\0\0");
-    put64(hist, at + 16, record);
-    put64(hist, at + 24, size);
-    seal_whole(hist);
 }
 
 #[test]
@@ -882,10 +838,10 @@ fn row_8() {
     for i in 0..4 {
         let place = entry(&s.hist, 2, i) + 20;
         s.hist[place] ^= 1;
-        seal_record(&mut s.hist, 2);
+        repair(&mut s.hist, Repair::Records);
         all_answer(&s, 8);
         s.hist[place] ^= 1;
-        seal_record(&mut s.hist, 2);
+        repair(&mut s.hist, Repair::Records);
     }
     assert_eq!(check(&s.hist).number, 0);
 }
@@ -895,7 +851,7 @@ fn row_8() {
 fn row_9_where_it_is_looked_at() {
     let s = scene(true);
     let mut hist = s.hist.clone();
-    let page = |i| get64(&s.hist, entry(&s.hist, 2, i) + 8) as usize;
+    let page = |i| number_of_8(&s.hist, entry(&s.hist, 2, i) + 8) as usize;
     // Page 16 of revision 2 is damaged.
     hist[page(1) + 3] ^= 1;
     let mut out = [0; 48];
@@ -998,7 +954,7 @@ fn row_13() {
         |s| s.session = ENDED,
         |s| {
             s.hist[5] &= !1;
-            seal_header(&mut s.hist);
+            repair(&mut s.hist, Repair::Header);
         },
         |s| s.session.end -= 1,
         |s| s.session.end = u64::MAX,
@@ -1009,7 +965,7 @@ fn row_13() {
         |s| s.session.parent = u64::MAX,
         |s| {
             s.hist[5] &= !2;
-            seal_header(&mut s.hist);
+            repair(&mut s.hist, Repair::Header);
         },
         |s| s.session.n = 257,
         |s| s.session.n = u64::MAX,

@@ -1,33 +1,12 @@
-//! An independent Fletcher-32, written from the document alone, over the same test vectors as the Rattle program `crates/vectors`.
+//! The plain Fletcher-32 of `forge`, written from the paper alone, over the same test vectors as the Rattle program
+//! `crates/vectors`.
 //!
-//! It prints the lines that the Rattle program is to print, and compares the checksums that are known from outside with their literal
-//! values. With a file's name as its argument, it also compares its lines with that file. It ends with status 1 on a difference.
+//! It prints the lines that the Rattle program is to print, and compares the checksums that are known from outside with
+//! their literal values. With a file's name as its argument, it also compares its lines with that file. It ends with
+//! status 1 on a difference.
 
+use forge::checksum;
 use std::process::ExitCode;
-
-/// "Each is 0 if its exact total is 0, otherwise the number from 1 to 65,535 that leaves the same remainder on division by 65,535."
-fn sum_of(total: u128) -> u32 {
-    if total == 0 {
-        return 0;
-    }
-    match (total % 65_535) as u32 {
-        0 => 65_535,
-        remainder => remainder,
-    }
-}
-
-/// "Bytes are taken as big-endian 16-bit words; an odd last byte is a word's high half. The first sum is the total of the words, the
-/// second the total of the running totals. The second sum stands in the high sixteen bits and the first in the low."
-fn checksum(bytes: &[u8]) -> u32 {
-    let mut first: u128 = 0;
-    let mut second: u128 = 0;
-    for pair in bytes.chunks(2) {
-        let low = pair.get(1).copied().unwrap_or(0);
-        first += u128::from(u16::from_be_bytes([pair[0], low]));
-        second += first;
-    }
-    (sum_of(second) << 16) | sum_of(first)
-}
 
 struct Vector {
     name: String,
@@ -59,8 +38,8 @@ fn stepped(start: usize, step: usize, length: usize) -> Vec<u8> {
         .collect()
 }
 
-/// The checksums of the three texts that are widely published take the words little-endian. In the document's word order the two bytes
-/// of each sum change places, since 256 * 256 leaves the remainder 1 on division by 65,535.
+/// The checksums of the three texts that are widely published take the words little-endian. In the document's word order
+/// the two bytes of each sum change places, since 256 * 256 leaves the remainder 1 on division by 65,535.
 fn bytes_exchanged(checksum: u32) -> u32 {
     ((checksum & 0x00FF_00FF) << 8) | ((checksum & 0xFF00_FF00) >> 8)
 }

@@ -1,309 +1,8 @@
-//! Histories made byte by byte from the paper's layout: legal ones of any shape, and others with chosen faults.
-//!
-//! All places and sizes are written out from the paper once more, so that a slip of the twin is not repeated here.
+//! Plans of histories: legal ones of any shape, and others with chosen faults.
 
-use crate::random::Random;
-use std::ops::Range;
-use twin::{checksum, Session};
-
-pub const LIMIT: u64 = 16_777_216;
-pub const NEWEST: u64 = u64::MAX;
-pub const TIME: &[u8; 16] = b"20240305T070000Z";
-
-pub const ENDED: Session = Session {
-    end: 0,
-    count: 0,
-    parent: 0,
-    size: 0,
-    n: 0,
-    pages: [0; 256],
-};
-
-pub fn number_of_4(bytes: &[u8], at: usize) -> u32 {
-    u32::from_le_bytes(bytes[at..at + 4].try_into().unwrap())
-}
-
-pub fn number_of_8(bytes: &[u8], at: usize) -> u64 {
-    u64::from_le_bytes(bytes[at..at + 8].try_into().unwrap())
-}
-
-pub fn put(bytes: &mut [u8], at: usize, part: &[u8]) {
-    bytes[at..at + part.len()].copy_from_slice(part);
-}
-
-/// Makes the last four bytes the checksum of all before them.
-fn seal(bytes: &mut [u8]) {
-    let (body, sum) = bytes.split_at_mut(bytes.len() - 4);
-    sum.copy_from_slice(&checksum(body).to_le_bytes());
-}
-
-// ---- finding the parts of a history that may be damaged, and repairing their checksums ----
-
-/// The bytes that an address and a size describe, if they lie in the history.
-fn part(history: &[u8], at: u64, size: u64) -> Option<Range<usize>> {
-    let end = at.checked_add(size)?;
-    (end <= history.len() as u64).then_some(at as usize..end as usize)
-}
-
-/// Where the whole history lies by the header, if it is there at all.
-pub fn whole(history: &[u8]) -> Option<Range<usize>> {
-    if history.len() < 40 {
-        return None;
-    }
-    let range = part(history, number_of_8(history, 20), number_of_8(history, 28))?;
-    (range.len() >= 20).then_some(range)
-}
-
-/// The committed end by the header, whatever it says.
-pub fn committed_end(history: &[u8]) -> u64 {
-    match history.len() {
-        0..40 => 0,
-        _ => number_of_8(history, 20).wrapping_add(number_of_8(history, 28)),
-    }
-}
-
-/// Where the locations lie that there is room for.
-pub fn locations(history: &[u8]) -> Vec<usize> {
-    let Some(whole) = whole(history) else {
-        return Vec::new();
-    };
-    let count = number_of_8(history, whole.start + 8).min((whole.len() as u64 - 20) / 20);
-    (0..count as usize)
-        .map(|k| whole.start + 16 + 20 * k)
-        .collect()
-}
-
-/// Where the record of the location at a place lies, if it is there and long enough for its fixed part.
-pub fn record(history: &[u8], location: usize) -> Option<Range<usize>> {
-    let at = number_of_8(history, location);
-    let range = part(history, at, number_of_8(history, location + 8))?;
-    (range.len() >= 76).then_some(range)
-}
-
-/// Where the entries of a record lie that there is room for.
-pub fn entries(history: &[u8], record: &Range<usize>) -> Vec<usize> {
-    let count = number_of_8(history, record.start + 56).min((record.len() as u64 - 76) / 24);
-    (0..count as usize)
-        .map(|k| record.start + 72 + 24 * k)
-        .collect()
-}
-
-/// How far up the checksums are made right again after damage.
-#[derive(Clone, Copy, PartialEq, Eq, PartialOrd, Ord, Debug)]
-pub enum Repair {
-    Nothing,
-    Header,
-    WholeHistory,
-    Locations,
-    Records,
-    Entries,
-    Pages,
-}
-
-pub const REPAIRS: [Repair; 7] = [
-    Repair::Nothing,
-    Repair::Header,
-    Repair::WholeHistory,
-    Repair::Locations,
-    Repair::Records,
-    Repair::Entries,
-    Repair::Pages,
-];
-
-/// Makes the checksums of the named part and of all parts around it right.
-pub fn repair(history: &mut [u8], depth: Repair) {
-    if depth >= Repair::Records {
-        for location in locations(history) {
-            if let Some(record) = record(history, location) {
-                repair_record(history, record, depth);
-            }
-        }
-    }
-    if depth >= Repair::Locations {
-        for location in locations(history) {
-            seal(&mut history[location..location + 20]);
-        }
-    }
-    if depth >= Repair::WholeHistory {
-        if let Some(range) = whole(history) {
-            seal(&mut history[range]);
-        }
-    }
-    if depth >= Repair::Header && history.len() >= 40 {
-        seal(&mut history[..40]);
-    }
-}
-
-fn repair_record(history: &mut [u8], record: Range<usize>, depth: Repair) {
-    let page = u64::from(number_of_4(history, 8));
-    for entry in entries(history, &record) {
-        if depth >= Repair::Pages {
-            if let Some(page) = part(history, number_of_8(history, entry + 8), page) {
-                let sum = checksum(&history[page]);
-                put(history, entry + 16, &sum.to_le_bytes());
-            }
-        }
-        if depth >= Repair::Entries {
-            let sum = checksum(&history[entry..entry + 16]);
-            put(history, entry + 20, &sum.to_le_bytes());
-        }
-    }
-    seal(&mut history[record]);
-}
-
-/// A field of a history: where it lies and how wide it is.
-pub type Field = Range<usize>;
-
-/// All fields of a history that can be found.
-pub fn fields(history: &[u8]) -> Vec<Field> {
-    let mut fields = Vec::new();
-    let mut put = |start: usize, places: &[(usize, usize)]| {
-        fields.extend(
-            places
-                .iter()
-                .map(|(at, width)| start + at..start + at + width),
-        );
-    };
-    if history.len() < 40 {
-        return fields;
-    }
-    put(
-        0,
-        &[
-            (0, 4),
-            (4, 1),
-            (5, 1),
-            (6, 1),
-            (7, 1),
-            (8, 4),
-            (12, 8),
-            (20, 8),
-            (28, 8),
-            (36, 4),
-        ],
-    );
-    if let Some(whole) = whole(history) {
-        put(
-            whole.start,
-            &[(0, 4), (4, 1), (5, 3), (8, 8), (whole.len() - 4, 4)],
-        );
-    }
-    for location in locations(history) {
-        put(location, &[(0, 8), (8, 8), (16, 4)]);
-        let Some(record) = record(history, location) else {
-            continue;
-        };
-        put(
-            record.start,
-            &[
-                (0, 4),
-                (4, 1),
-                (5, 3),
-                (8, 8),
-                (16, 8),
-                (24, 4),
-                (28, 2),
-                (30, 2),
-                (32, 1),
-                (33, 2),
-                (35, 2),
-                (37, 2),
-                (39, 1),
-                (40, 8),
-                (48, 4),
-                (52, 4),
-                (56, 8),
-                (64, 4),
-                (68, 4),
-                (record.len() - 4, 4),
-            ],
-        );
-        let entries = entries(history, &record);
-        let texts = 72 + 24 * entries.len();
-        for entry in entries {
-            put(entry, &[(0, 8), (8, 8), (16, 4), (20, 4)]);
-        }
-        for at in texts..record.len() - 4 {
-            put(record.start, &[(at, 1)]);
-        }
-    }
-    fields
-}
-
-// ---- words of a commit ----
-
-/// A time by the layout.
-pub fn time(random: &mut Random) -> Vec<u8> {
-    let parts = [
-        random.below(10_000),
-        random.between(1, 12),
-        random.between(1, 31),
-        random.below(24),
-        random.below(60),
-        random.below(60),
-    ];
-    let [year, month, day, hour, minute, second] = parts;
-    format!("{year:04}{month:02}{day:02}T{hour:02}{minute:02}{second:02}Z").into_bytes()
-}
-
-/// Times of sixteen bytes, each against the layout in one way.
-pub fn wrong_time(random: &mut Random) -> Vec<u8> {
-    let mut wrong = time(random);
-    let part: (usize, &[u8]) = match random.below(12) {
-        0 => (4, b"00"),
-        1 => (4, b"13"),
-        2 => (6, b"00"),
-        3 => (6, b"32"),
-        4 => (9, b"24"),
-        5 => (11, b"60"),
-        6 => (13, b"60"),
-        7 => (8, b"t"),
-        8 => (15, b"z"),
-        9 => (15, &[0]),
-        _ => {
-            let at = random.pick(&[0, 1, 2, 3, 4, 5, 6, 7, 9, 10, 11, 12, 13, 14]);
-            (at, random.pick(&[b"/", b":", b" ", b"\0", b"\xB0", b"T"]))
-        }
-    };
-    put(&mut wrong, part.0, part.1);
-    wrong
-}
-
-/// A name or comment by the layout.
-pub fn text(random: &mut Random, most: u64) -> Vec<u8> {
-    let length = match random.below(6) {
-        0 => 0,
-        1 => most - 1,
-        _ => random.below(most.min(12)),
-    };
-    let mut text: Vec<u8> = (0..length)
-        .map(|_| match random.below(8) {
-            0 => 0x20,
-            1 => 0x7E,
-            _ => random.between(0x20, 0x7E) as u8,
-        })
-        .collect();
-    text.push(0);
-    text
-}
-
-/// A name or comment of an allowed length that is against the layout in one way.
-pub fn wrong_text(random: &mut Random, most: u64) -> Vec<u8> {
-    let mut wrong = text(random, most);
-    if wrong.len() < 2 {
-        wrong = b"a\0".to_vec();
-    }
-    let last = wrong.len() - 1;
-    let inside = random.below(last as u64) as usize;
-    match random.below(3) {
-        0 => wrong[last] = random.pick(b"a\x01\xFF"),
-        1 => wrong[inside] = 0,
-        _ => wrong[inside] = random.pick(b"\x01\x09\x0A\x1F\x7F\x80\xA0\xFF"),
-    }
-    wrong
-}
-
-// ---- plans of histories ----
+use crate::parts::part;
+use crate::words::{text, time};
+use crate::{checksum, Random, LIMIT, TIME};
 
 /// An index entry. A fault is laid over the right checksum; 0 leaves it right.
 #[derive(Clone, Debug)]
@@ -312,6 +11,17 @@ pub struct Entry {
     pub physical: u64,
     pub page_sum_fault: u32,
     pub entry_sum_fault: u32,
+}
+
+impl Entry {
+    pub fn new(logical: u64, physical: u64) -> Entry {
+        Entry {
+            logical,
+            physical,
+            page_sum_fault: 0,
+            entry_sum_fault: 0,
+        }
+    }
 }
 
 /// A record, and what is said about it elsewhere; `None` stands for the truth.
@@ -405,6 +115,12 @@ impl Plan {
 
     pub fn end(&self) -> u64 {
         self.whole_at + self.whole_size()
+    }
+
+    /// Takes in the record of the next revision, with the whole history directly behind it.
+    pub fn append(&mut self, record: Record) {
+        self.whole_at = record.end();
+        self.records.push(record);
     }
 
     /// Makes the buffer so many bytes longer than it has to be.
@@ -539,9 +255,7 @@ pub fn legal(random: &mut Random) -> Plan {
     plan.header_start[5] = random.pick(&[0, 2, 2]);
     let revisions = random.below(7);
     let mut order: Vec<u64> = (1..=revisions).collect();
-    for i in (1..order.len()).rev() {
-        order.swap(i, random.below(i as u64 + 1) as usize);
-    }
+    random.shuffle(&mut order);
     let mut records = Vec::new();
     let mut next = 60;
     for revision in order {
@@ -616,23 +330,41 @@ fn legal_record(
             0 => random.between(60, at - page),
             _ => random.pick(&physicals),
         };
-        record.entries.push(Entry {
-            logical,
-            physical,
-            page_sum_fault: 0,
-            entry_sum_fault: 0,
-        });
+        record.entries.push(Entry::new(logical, physical));
     }
     record
 }
 
-/// The session that an opening of this revision would hand back.
-pub fn session(plan: &Plan, parent: u64) -> Session {
-    Session {
-        end: plan.end(),
-        count: plan.records.len() as u64,
-        parent,
-        size: plan.size_of(parent),
-        ..ENDED
+#[cfg(test)]
+mod tests {
+    use super::*;
+    use crate::{repair, REPAIRS};
+
+    /// The addresses and sizes of the paper's example.
+    #[test]
+    fn parts_lie_where_the_paper_has_them() {
+        let mut plan = empty(16, 20);
+        assert_eq!((plan.whole_at, plan.end()), (40, 60));
+        let mut first = plain_record(1, 92, 16, 20);
+        first.entries = vec![Entry::new(0, 60), Entry::new(16, 76)];
+        assert_eq!(first.length(), 129);
+        plan.append(first);
+        assert_eq!((plan.whole_at, plan.end()), (221, 261));
+        let mut second = plain_record(2, 277, 16, 21);
+        second.entries = vec![Entry::new(0, 60), Entry::new(16, 261)];
+        plan.append(second);
+        assert_eq!((plan.whole_at, plan.end()), (406, 466));
+    }
+
+    #[test]
+    fn the_checksums_of_a_legal_history_need_no_repair() {
+        for seed in 0..300 {
+            let history = legal(&mut Random::seeded(&[seed])).build();
+            for depth in REPAIRS {
+                let mut repaired = history.clone();
+                repair(&mut repaired, depth);
+                assert!(repaired == history, "seed {seed}, {depth:?}");
+            }
+        }
     }
 }

@@ -1,9 +1,9 @@
 //! Numbers that look random and are the same in each run with the same seed.
 
+use crate::LIMIT;
+
 /// The page sizes allowed.
 pub const PAGE_SIZES: [u64; 9] = [16, 32, 64, 128, 256, 512, 1_024, 2_048, 4_096];
-
-const LIMIT: u64 = 16_777_216;
 
 /// Numbers at which something may turn, whatever they stand for.
 pub const EXTREMES: [u64; 24] = [
@@ -73,6 +73,12 @@ impl Random {
 
     pub fn pick<T: Copy>(&mut self, from: &[T]) -> T {
         from[self.below(from.len() as u64) as usize]
+    }
+
+    pub fn shuffle<T>(&mut self, things: &mut [T]) {
+        for last in (1..things.len()).rev() {
+            things.swap(last, self.below(last as u64 + 1) as usize);
+        }
     }
 
     pub fn fill(&mut self, bytes: &mut [u8]) {
