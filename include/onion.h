@@ -9,13 +9,13 @@
  * stands with the call. A refusal changes no lent byte, and a session that was lent is handed back unchanged.
  *
  * What the caller owes:
- *   - a pointer is never NULL, also where its length is 0;
  *   - a pointer and the length behind it describe bytes that stand for the whole call;
+ *   - a pointer is NULL at most where its length is 0;
  *   - a history that a call changes, and an output buffer, overlap no other argument;
  *   - a session is used once: each call takes it by value and gives the one to go on with.
  *
  * Compile with -I include and link with target/lib/libonion.a or target/lib/libonion.so, which `make lib` builds.
- * host/c_example/main.c is a small program that uses most of it.
+ * host/c_example has two small programs that use most of it.
  */
 #ifndef ONION_H
 #define ONION_H
@@ -27,6 +27,13 @@
 #ifdef __cplusplus
 extern "C" {
 #endif
+
+/* ---- Version ----------------------------------------------------------------------------------------------------- */
+
+/* Of this header. onion_version() tells that of the library: its upper sixteen bits change when a program has to. */
+#define ONION_VERSION_MAJOR 1
+#define ONION_VERSION_MINOR 0
+#define ONION_VERSION ((uint32_t)ONION_VERSION_MAJOR << 16 | (uint32_t)ONION_VERSION_MINOR)
 
 /* ---- Sizes allowed ----------------------------------------------------------------------------------------------- */
 
@@ -56,6 +63,9 @@ extern "C" {
 /* The header's length, and the length of a history that was just created. */
 #define ONION_HEADER_LENGTH 40
 #define ONION_CREATED_LENGTH 60
+
+/* The most bytes that onion_list gives. */
+#define ONION_LIST_MOST 169068
 
 /* Asks for the newest revision, which is 0 (the original) where none was committed. */
 #define ONION_NEWEST UINT64_MAX
@@ -191,6 +201,39 @@ typedef struct onion_step {
 #define ONION_STEP_ENTRY 0
 #define ONION_STEP_END 1
 
+/* A part of the history: where it starts, and its length. */
+typedef struct onion_part {
+    uint64_t offset;
+    uint64_t length;
+} onion_part;
+
+/* What a history says of itself: all but the number are zero where refused. */
+typedef struct onion_setting {
+    uint64_t number;
+    uint64_t page_size;
+    uint64_t original;  /* the original's length */
+    uint64_t revisions; /* how many were committed; the newest has this number */
+    uint64_t end;       /* the committed end: the bytes from here on mean nothing */
+    bool lock;          /* a session is open, or a program left the lock behind */
+    bool branching;     /* any revision may be opened for writing, not the newest alone */
+} onion_setting;
+
+/*
+ * What a revision's record says: all but the number are zero where refused. Of revision 0, which has no record, the
+ * logical size alone is told.
+ */
+typedef struct onion_record {
+    uint64_t number;
+    uint64_t revision;
+    uint64_t parent;
+    uint64_t logical;   /* the revision's length */
+    uint64_t user;      /* the user ID */
+    uint64_t entries;   /* how many index entries the record has */
+    onion_part time;    /* sixteen bytes with no closing zero */
+    onion_part name;    /* with its closing zero: a C string in the history */
+    onion_part comment; /* with its closing zero: a C string in the history */
+} onion_record;
+
 /* ---- Writing ----------------------------------------------------------------------------------------------------- */
 
 /*
@@ -276,6 +319,28 @@ onion_found onion_look_up(const uint8_t *original, size_t original_length, const
 onion_checked onion_check(const uint8_t *history, size_t history_length);
 
 /*
+ * Says what a history says of itself: page size, the original's length, revisions, committed end, lock and branching.
+ * Changes: nothing.
+ * Refuses: 1, 2, 3, 5.
+ */
+onion_setting onion_setting_of(const uint8_t *history, size_t history_length);
+
+/*
+ * Says what the record of a revision says, ONION_NEWEST for the newest, and where its texts stand in the history.
+ * Changes: nothing.
+ * Refuses: 1, 2, 3, 5, 6, 7, 8.
+ */
+onion_record onion_record_of(const uint8_t *history, size_t history_length, uint64_t revision);
+
+/*
+ * Lists the history as text: a line for the history and one for each revision, or a line that tells the refusal. The
+ * answer is the text's length, at most ONION_LIST_MOST; where the output is too short for all of it nothing is written.
+ * Changes: the first bytes of the output.
+ * Refuses, in its text: 1, 2, 3, 5, and then, revision after revision, 7 and 8.
+ */
+uint64_t onion_list(const uint8_t *history, size_t history_length, uint8_t *output, size_t output_length);
+
+/*
  * Says where the record of a revision lies, for onion_browse_step.
  * Changes: nothing.
  * Refuses: 1, 2, 3, 5, 6, 7, 8.
@@ -295,6 +360,33 @@ onion_step onion_browse_step(const uint8_t *record, size_t record_length, uint64
  * Changes: nothing. Refuses: never.
  */
 uint32_t onion_checksum(const uint8_t *bytes, size_t length);
+
+/* ---- Words ------------------------------------------------------------------------------------------------------- */
+
+/* The sentence of a refusal number, "accepted" for 0 and "unknown number" for one that is not in the table. */
+const char *onion_sentence(uint64_t number);
+
+/* The version of the library, as ONION_VERSION is that of the header. */
+uint32_t onion_version(void);
+
+/* The structs have the sizes that the library has been built with. */
+#if defined(__cplusplus)
+#define ONION_SIZE_IS(type, size) static_assert(sizeof(type) == (size), #type)
+#elif defined(__STDC_VERSION__) && __STDC_VERSION__ >= 201112L
+#define ONION_SIZE_IS(type, size) _Static_assert(sizeof(type) == (size), #type)
+#else
+#define ONION_SIZE_IS(type, size) typedef char type##_size[sizeof(type) == (size) ? 1 : -1]
+#endif
+ONION_SIZE_IS(onion_session, 1064);
+ONION_SIZE_IS(onion_answer, 1072);
+ONION_SIZE_IS(onion_found, 32);
+ONION_SIZE_IS(onion_checked, 24);
+ONION_SIZE_IS(onion_browsed, 24);
+ONION_SIZE_IS(onion_step, 40);
+ONION_SIZE_IS(onion_part, 16);
+ONION_SIZE_IS(onion_setting, 48);
+ONION_SIZE_IS(onion_record, 96);
+#undef ONION_SIZE_IS
 
 #ifdef __cplusplus
 }

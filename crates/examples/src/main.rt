@@ -125,7 +125,7 @@ fn show_revisions(history: &[u8]) {
 
 fn show_list(history: &[u8]) {
     let mut text = [0u8; 169068];
-    let length = listing::list(history, &mut text);
+    let length = listing::list_program(history, &mut text);
     io::write_all(STDOUT_FILENO, &text[..length]);
 }
 

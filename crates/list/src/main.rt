@@ -7,6 +7,6 @@ fn main() {
     let mut history = [0u8; listing::LIST_LIMIT + 1];
     let read = io::read_full(STDIN_FILENO, &mut history);
     let mut text = [0u8; listing::LONGEST];
-    let length = listing::list(&history[..read], &mut text);
+    let length = listing::list_program(&history[..read], &mut text);
     io::write_all(STDOUT_FILENO, &text[..length]);
 }

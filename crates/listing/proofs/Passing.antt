@@ -10,7 +10,7 @@ use borrow.Author.Tests.{lt-ltb, le-ltb}
 use Rattle.rules.specs.Layout.{headerWidth, settingOf, recordOf, nameOf, textRight}
 use Rattle.rules.specs.Rows.{lengthWrong}
 use Rattle.rules.specs.Calls.{_then_, headerRows, historyRows, recordRows, recordsRows}
-use Rattle.rules.specs.Listing.{listLimit, listRows}
+use Rattle.rules.specs.Listing.{listRows}
 use Rattle.rules.specs.declared.Form.{Form}
 use Rattle.rules.specs.declared.Setting.{Setting}
 use Rattle.rules.specs.declared.Record.{Record}
@@ -18,28 +18,27 @@ use Rattle.rules.proofs.Places.{end-behind}
 use Rattle.rules.proofs.Rows.{then-assoc, row-holds, rows-hold, rows-past, then-clear}
 use Rattle.rules.proofs.Records.{RecordRight, rows-pass}
 use Rattle.whole.specs.Sound.{Sound}
-use Rattle.records.specs.Sound.{Standing}
 use Rattle.listing.specs.Written.{Shown}
 
 -- ---- The first rows
 
 -- Longer input counts as 1.
-pub list-over : (h : List ℕ) → listLimit < length h → 1 ≡ listRows h
+pub list-over : (most : ℕ) (h : List ℕ) → most < length h → 1 ≡ listRows most h
 unfolding listRows
-list-over h l = row-holds 1 _ (omega arith) refl (rw (lt-ltb listLimit (length h) l) (or-true (lengthWrong headerWidth (length h))))
+list-over most h l = row-holds 1 _ (omega arith) refl (rw (lt-ltb most (length h) l) (or-true (lengthWrong headerWidth (length h))))
 
 -- Of any other, the rows of a history come first.
-list-within : (h : List ℕ) → length h ≤ listLimit → listRows h ≡ (historyRows h (settingOf h) then recordsRows h (settingOf h) 1 (settingOf h .count))
+list-within : (most : ℕ) (h : List ℕ) → length h ≤ most → listRows most h ≡ (historyRows h (settingOf h) then recordsRows h (settingOf h) 1 (settingOf h .count))
 unfolding listRows historyRows headerRows
-list-within h l = rw (le-ltb listLimit (length h) l, or-false (lengthWrong headerWidth (length h))) (simp then-assoc)
+list-within most h l = rw (le-ltb most (length h) l, or-false (lengthWrong headerWidth (length h))) (simp then-assoc)
 
-pub list-fault : (h : List ℕ) {n : ℕ} → length h ≤ listLimit → n ≡ historyRows h (settingOf h) → (n ≡ 0 → ⊥) → n ≡ listRows h
-list-fault h {n} l e f = rows-hold _ n e f ∙ sym (list-within h l)
+pub list-fault : (most : ℕ) (h : List ℕ) {n : ℕ} → length h ≤ most → n ≡ historyRows h (settingOf h) → (n ≡ 0 → ⊥) → n ≡ listRows most h
+list-fault most h {n} l e f = rows-hold _ n e f ∙ sym (list-within most h l)
 
-pub list-past : (h : List ℕ) {s : Setting} {n m : ℕ} → length h ≤ listLimit → n ≡ historyRows h (settingOf h) → n ≡ 0 → Sound h s
-    → m ≡ recordsRows h s 1 (s .count) → m ≡ listRows h
-list-past h {s} {n} {m} l e z w f =
-    rows-past _ e z (f ∙ ap (λ (t : Setting). recordsRows h t 1 (t .count)) (w .setting)) ∙ sym (list-within h l)
+pub list-past : (most : ℕ) (h : List ℕ) {s : Setting} {n m : ℕ} → length h ≤ most → n ≡ historyRows h (settingOf h) → n ≡ 0 → Sound h s
+    → m ≡ recordsRows h s 1 (s .count) → m ≡ listRows most h
+list-past most h {s} {n} {m} l e z w f =
+    rows-past _ e z (f ∙ ap (λ (t : Setting). recordsRows h t 1 (t .count)) (w .setting)) ∙ sym (list-within most h l)
 
 -- ---- The rows of records
 
@@ -98,7 +97,6 @@ right-shown h s k r w e =
       short = w .short;
     }
 
-pub record-shown : (h : List ℕ) (s : Setting) (k : ℕ) {r : Record} → 0 < k → recordRows h s k ≡ 0 → Standing h s k r → Shown h (s .form) r
-record-shown h s zero l z w = absurd (omega arith)
-record-shown h s (suc k) l z w =
-    rw (w .found) (right-shown h s (suc k) (recordOf h s (suc k)) (w .sound) (rows-pass h s k z .0))
+pub record-shown : (h : List ℕ) (s : Setting) (k : ℕ) {r : Record} → 0 < k → recordRows h s k ≡ 0 → Sound h s → r ≡ recordOf h s k → Shown h (s .form) r
+record-shown h s zero l z w e = absurd (omega arith)
+record-shown h s (suc k) l z w e = rw e (right-shown h s (suc k) (recordOf h s (suc k)) w (rows-pass h s k z .0))

@@ -129,10 +129,10 @@ fitted-whole out text e h w = rw (e, w .bytes, le-leb (length text) (length out)
 pub refused-long : (n : ℕ) {m : ℕ} → m ≡ length (decimal n) → 9 + m ≡ length (refusedWord ++ decimal n ++ newline)
 refused-long n e = simp length-append (omega arith)
 
-pub list-refused : (h out : List ℕ) {n : ℕ} → n ≡ listRows h → (n ≡ 0 → ⊥) → fitted out (refusedWord ++ decimal n ++ newline) ≡ list h out
+pub list-refused : (most : ℕ) (h out : List ℕ) {n : ℕ} → n ≡ listRows most h → (n ≡ 0 → ⊥) → fitted out (refusedWord ++ decimal n ++ newline) ≡ list most h out
 unfolding list listText
-list-refused h out {n} e f =
-    let t : refusedWord ++ decimal n ++ newline ≡ listText h = rw (← e) (left-alone n _ _ f) in
+list-refused most h out {n} e f =
+    let t : refusedWord ++ decimal n ++ newline ≡ listText most h = rw (← e) (left-alone n _ _ f) in
     ap (fitted out) t
 
 -- or the lines.
@@ -140,7 +140,7 @@ pub lines-long : (h : List ℕ) (s : Setting) {m k : ℕ} → m ≡ length (sett
     → m + k ≡ length (settingLine s ++ recordLines h s 1 (s .count))
 lines-long h s e f = rw (length-append, e, f)
 
-pub list-lines : (h out : List ℕ) {s : Setting} {n : ℕ} → n ≡ listRows h → n ≡ 0 → s ≡ settingOf h
-    → fitted out (settingLine s ++ recordLines h s 1 (s .count)) ≡ list h out
+pub list-lines : (most : ℕ) (h out : List ℕ) {s : Setting} {n : ℕ} → n ≡ listRows most h → n ≡ 0 → s ≡ settingOf h
+    → fitted out (settingLine s ++ recordLines h s 1 (s .count)) ≡ list most h out
 unfolding list listText
-list-lines h out e z i = rw (sym e ∙ z, i)
+list-lines most h out e z i = rw (sym e ∙ z, i)

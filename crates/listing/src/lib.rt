@@ -1,4 +1,4 @@
-// The list program's text: a line for the history and one for each of its records, or the first fault.
+// The list's text: a line for the history and one for each of its records, or the first fault.
 use rules::Form;
 use rules::Record;
 use rules::Setting;
@@ -8,11 +8,11 @@ ghost use Prim.Native.Nat.{ℕ, _+_, _≤_};
 ghost use lib.ListN.{length};
 ghost use Rattle.rules.specs.Layout.{nameLimit};
 ghost use Rattle.rules.specs.Calls.{recordsRows};
-ghost use Rattle.rules.specs.Listing.{decimal, yesNo, space, newline, refusedWord, settingLine, recordLine, recordLines, list};
+ghost use Rattle.rules.specs.Listing.{decimal, yesNo, space, newline, refusedWord, settingLine, recordLine, recordLines, listLimit, list};
 ghost use Rattle.whole.specs.Sound.{Sound};
 ghost use Rattle.listing.specs.Written.{Written, Shown, Passed, Counted, digitsMost, flagMost, settingMost, recordMost, refusedMost, textMost, listed, fitted};
 
-// A longer history than this counts as row 1.
+// For the list program a longer history than this counts as row 1.
 pub const LIST_LIMIT: usize = 65536;
 
 // A buffer of so many bytes holds every text: a line of at most 108 for the history, and 1,024 of at most 165 for the records.
@@ -194,7 +194,7 @@ fn judge_records(history: &[u8], s: Setting) -> Judged
 
 // ---- The records' lines
 
-// Each record is judged once more, since there is no room to keep all of them until the text is known to fit.
+// Each record is read once more, since there is no room to keep all of them until the text is known to fit.
 fn put_record_lines(out: &mut [u8], at: usize, history: &[u8], s: Setting) -> usize
     requires { ⌜ (at + length (recordLines (now history) s 1 (s .count)) ≤ length (now out)) × Passed (now history) s ⌝ }
     ensures { λ e. ⌜ Written (now (out .entry)) at (recordLines (now (history .entry)) s 1 (s .count)) (now (out .exit)) e ⌝ }
@@ -204,8 +204,8 @@ fn put_record_lines(out: &mut [u8], at: usize, history: &[u8], s: Setting) -> us
     let mut k: u64 = 0;
     while k < s.count {
         k += 1;
-        let judged = records::judge(history, s, k);
-        next = put_record_line(out, next, history, form, judged.record);
+        let record = records::passed(history, s, k);
+        next = put_record_line(out, next, history, form, record);
     }
     next
 }
@@ -241,13 +241,13 @@ fn list_passed(history: &[u8], out: &mut [u8], s: Setting, records: usize) -> us
     total
 }
 
-// Lays the list program's text over the start of a buffer, where there is room for all of it. The answer is the text's length
-// either way.
-pub fn list(history: &[u8], out: &mut [u8]) -> usize
-    ensures text { λ r. ⌜ listed r (now (out .exit)) ≡ list (now (history .entry)) (now (out .entry)) ⌝ }
+// Lays the list's text over the start of a buffer, where there is room for all of it. The answer is the text's length either way. A
+// history of more than so many bytes is refused as too long.
+pub fn list(history: &[u8], out: &mut [u8], most: usize) -> usize
+    ensures text { λ r. ⌜ listed r (now (out .exit)) ≡ list most (now (history .entry)) (now (out .entry)) ⌝ }
     ensures short { λ r. ⌜ r ≤ textMost ⌝ }
 {
-    if LIST_LIMIT < history.len() {
+    if most < history.len() {
         return list_refused(out, 1);
     }
     let whole = whole::judge(history);
@@ -260,4 +260,12 @@ pub fn list(history: &[u8], out: &mut [u8]) -> usize
         return list_refused(out, records.number);
     }
     list_passed(history, out, setting, records.length)
+}
+
+// The list program's text: the same of at most 65,536 bytes.
+pub fn list_program(history: &[u8], out: &mut [u8]) -> usize
+    ensures text { λ r. ⌜ listed r (now (out .exit)) ≡ list listLimit (now (history .entry)) (now (out .entry)) ⌝ }
+    ensures short { λ r. ⌜ r ≤ textMost ⌝ }
+{
+    list(history, out, LIST_LIMIT)
 }

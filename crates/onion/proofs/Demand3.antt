@@ -11,7 +11,8 @@ use denote.Triple.Clauses.{AtExit}
 use denote.Ref.{now}
 use Rattle.rules.specs.Bytes.{part}
 use Rattle.rules.specs.Calls.{Reply, Outcome, fault}
-use Rattle.rules.specs.History.{Call, opens, writes, commits, releases, sessionReads, looks, Moment, answered, taken, after, fresh, Revision, nothing, laidOn, revisionsOf, Kept, Creation, creates, originalAlone}
+use Rattle.rules.specs.Moments.{Call, opens, writes, commits, releases, sessionReads, looks, Moment, answered, taken, after, fresh}
+use Rattle.rules.specs.History.{Revision, nothing, laidOn, revisionsOf, Kept, Creation, creates, originalAlone}
 use Rattle.rules.proofs.Created.{demand3}
 use Rattle.onion.proofs.onion_create.Kinds as createKinds
 use Rattle.onion.proofs.onion_create.Reads as create

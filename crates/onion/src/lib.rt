@@ -3,11 +3,17 @@
 use rules::Browsed;
 use rules::Checked;
 use rules::Found;
+use rules::RecordTold;
+use rules::SettingTold;
 use rules::Step;
 use store::Answer;
 use store::Session;
 ghost use mathlib.Core.Path.{_≡_};
 ghost use Rattle.rules.specs.Checksum.{checksum};
+ghost use Rattle.rules.specs.Layout.{limit};
+ghost use Rattle.rules.specs.Listing.{list};
+ghost use Rattle.rules.specs.Telling.{tellSetting, tellRecord};
+ghost use Rattle.listing.specs.Written.{listed};
 ghost use Rattle.rules.specs.Calls.{Reply, Outcome, create, openForWriting, write, commit, release, read, sessionRead, lookUp, check, browse, browseStep};
 
 #[no_mangle]
@@ -108,6 +114,27 @@ pub extern "C" fn onion_check(history: &[u8]) -> Checked
     ensures { λ r. ⌜ r ≡ check (now (history .entry)) ⌝ }
 {
     checking::check(history)
+}
+
+#[no_mangle]
+pub extern "C" fn onion_setting_of(history: &[u8]) -> SettingTold
+    ensures { λ r. ⌜ r ≡ tellSetting (now (history .entry)) ⌝ }
+{
+    telling::setting_of(history)
+}
+
+#[no_mangle]
+pub extern "C" fn onion_record_of(history: &[u8], revision: u64) -> RecordTold
+    ensures { λ r. ⌜ r ≡ tellRecord (now (history .entry)) revision ⌝ }
+{
+    telling::record_of(history, revision)
+}
+
+#[no_mangle]
+pub extern "C" fn onion_list(history: &[u8], out: &mut [u8]) -> u64
+    ensures { λ r. ⌜ listed r (now (out .exit)) ≡ list limit (now (history .entry)) (now (out .entry)) ⌝ }
+{
+    listing::list(history, out, layout::LIMIT as usize) as u64
 }
 
 #[no_mangle]

@@ -40,6 +40,7 @@ use Rattle.rules.specs.Layout.{
   recordOf,
   timeRight,
   textRight,
+  locatedSize,
 }
 use Rattle.rules.specs.Rows.{entriesRight, recordLies, recordFields, recordWrong, recordSumWrong}
 use Rattle.rules.specs.Calls.{row, _then_, recordRows}
@@ -143,7 +144,7 @@ summed-facts h f r e =
 -- ---- Both rows of a revision
 
 module _ (h : List ℕ) (s : Setting) where
-  record-is : (k : ℕ) {at size : ℕ} → 0 < k → at ≡ addressAt (s .form) h (locationAt s k) → size ≡ numberAt 8 h (locationAt s k + 8)
+  record-is : (k : ℕ) {at size : ℕ} → 0 < k → at ≡ addressAt (s .form) h (locationAt s k) → size ≡ locatedSize h (locationAt s k)
       → recordAt (s .form) h at size ≡ recordOf h s k
   unfolding recordOf
   record-is zero h e f = absurd (omega arith)
@@ -231,7 +232,7 @@ index-there h s r = go (r .entries) refl
 
 -- ---- A revision's rows, from where its location says the record stands
 
-module _ (h : List ℕ) (s : Setting) (k : ℕ) {at size : ℕ} (l : 0 < k) (ea : at ≡ addressAt (s .form) h (locationAt s k)) (ez : size ≡ numberAt 8 h (locationAt s k + 8)) where
+module _ (h : List ℕ) (s : Setting) (k : ℕ) {at size : ℕ} (l : 0 < k) (ea : at ≡ addressAt (s .form) h (locationAt s k)) (ez : size ≡ locatedSize h (locationAt s k)) where
   -- It does not lie where a record may.
   pub rows-apart : (bareWidth (s .form) ≤ size → at + size ≤ s .address → ⊥) → 7 ≡ recordRows h s k
   unfolding recordAt

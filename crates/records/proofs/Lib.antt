@@ -1,4 +1,5 @@
 pub mod Fields
+pub mod Room
 pub mod Entries
 pub mod Stands
 pub mod Front

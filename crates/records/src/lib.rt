@@ -7,7 +7,7 @@ use rules::Setting;
 ghost use mathlib.Core.Path.{_≡_};
 ghost use mathlib.Core.Bool.{true, false, _&&_};
 ghost use mathlib.Core.List.{List};
-ghost use Prim.Native.Nat.{ℕ, _+_, _≤_};
+ghost use Prim.Native.Nat.{ℕ, _+_, _≤_, _<_};
 ghost use lib.ListN.{length};
 ghost use Rattle.rules.specs.Bytes.{part, laid};
 ghost use Rattle.rules.specs.Layout.{
@@ -16,10 +16,12 @@ ghost use Rattle.rules.specs.Layout.{
   entryLimit,
   entriesWidth,
   userBytes,
+  userAt,
   frontWidth,
   bareWidth,
   frontBytes,
   recordAt,
+  timeAt,
   timeOf,
   indexOf,
   nameAt,
@@ -27,6 +29,7 @@ ghost use Rattle.rules.specs.Layout.{
   commentOf,
   noRecord,
   textRight,
+  recordOf,
 };
 ghost use Rattle.rules.specs.Rows.{entryRight, entriesRight, recordLies, recordFields, recordWrong, recordSumWrong};
 ghost use Rattle.rules.specs.Calls.{row, _then_, recordRows};
@@ -44,6 +47,9 @@ const COMMENT: u64 = 256;
 
 // How far behind a record's start its time stands.
 const TIME: usize = 24;
+
+// The same of its user ID.
+const USER: usize = 52;
 
 // ---- Fields
 
@@ -71,7 +77,7 @@ fn put_user(history: &mut [u8], form: Form, at: usize, user: u32)
     requires { ⌜ at + frontWidth form ≤ length (now history) ⌝ }
     ensures { λ _. ⌜ now (history .exit) ≡ laid (now (history .entry)) (at + 52) (userBytes form user) ⌝ }
 {
-    numbers::put_u32(history, at + 52, user as u64);
+    numbers::put_u32(history, at + USER, user as u64);
 }
 
 // Stores a record's start up to its time: which revision it is, and of which parent.
@@ -104,9 +110,17 @@ pub fn put_front(history: &mut [u8], form: Form, r: Record, time: &[u8], user: u
 // Where a record's time stands: in every form among the fields ahead of the entries.
 pub fn time_at(r: Record) -> usize
     requires { ⌜ r .address ≤ limit ⌝ }
-    ensures { λ a. ⌜ ((history : List ℕ) → part history a 16 ≡ timeOf history r) × ((f : Form) → a + 16 ≤ r .address + frontWidth f) ⌝ }
+    ensures { λ a. ⌜ ((history : List ℕ) → part history a 16 ≡ timeOf history r) × ((f : Form) → a + 16 ≤ r .address + frontWidth f) × (a ≡ timeAt r) ⌝ }
 {
     r.address as usize + TIME
+}
+
+// The user ID of a record.
+pub fn user_of(history: &[u8], form: Form, r: Record) -> u64
+    requires { ⌜ (r .address + frontWidth form ≤ length (now history)) × (length (now history) ≤ limit) ⌝ }
+    ensures { λ u. ⌜ u ≡ userAt form (now (history .entry)) (r .address) ⌝ }
+{
+    numbers::get_u32(history, r.address as usize + USER)
 }
 
 // Where a record's name stands, behind its entries.
@@ -325,6 +339,15 @@ pub fn judge(history: &[u8], s: Setting, k: u64) -> Judged
     let record = record_at(history, s.form, place.address as usize, place.size);
     let number = number_of(history, s, k, record);
     Judged { number, record }
+}
+
+// The record of a revision that the rows have passed before: it is read and not judged again.
+pub fn passed(history: &[u8], s: Setting, k: u64) -> Record
+    requires { ⌜ (Sound (now history) s) × (0 < k) × (k ≤ s .count) × (recordRows (now history) s k ≡ 0) ⌝ }
+    ensures { λ r. ⌜ r ≡ recordOf (now (history .entry)) s k ⌝ }
+{
+    let place = whole::location_of(history, s, k);
+    record_at(history, s.form, place.address as usize, place.size)
 }
 
 // Where the index of a record stands.

@@ -11,7 +11,7 @@ use lib.Dec.{leb, ltb}
 use lib.ListN.{length, getD, length-append, List·getD-append}
 use lib.Seq.{getD-append-seam}
 use borrow.Author.Tests.{le-leb, lt-ltb, eq-eqb, leb-true, ltb-true, ltb-false, eqb-true, not-false}
-use Rattle.rules.specs.Bytes.{byteAt, part, numberAt, laid, tabulate}
+use Rattle.rules.specs.Bytes.{byteAt, part, laid, tabulate}
 use Rattle.rules.specs.Checksum.{checksum}
 use Rattle.rules.specs.Layout.{
   limit,
@@ -41,13 +41,16 @@ use Rattle.rules.specs.Layout.{
   textRight,
   nameRight,
   commentRight,
+  countAt,
+  locatedSize,
 }
 use Rattle.rules.specs.Orders.{Rising, Distinct}
 use Rattle.rules.specs.View.{placeOf, has, noEntry, logicals, pageOf, revisionByte, ownPages, shownByte, sessionByte}
 use Rattle.rules.specs.Session.{ownEntry, mergedIndex, mergedCount, recordStored, settingStored, locationsStored, committed}
 use Rattle.rules.specs.Rows.{recordFields, pageSumWrong, tooMany, noRoom, textsWrong}
 use Rattle.rules.specs.Calls.{headerRows, recordRows, revisionIndex, commitRows}
-use Rattle.rules.specs.History.{Logged, Revision, nothing, entryAfresh, worked}
+use Rattle.rules.specs.Moments.{Logged}
+use Rattle.rules.specs.History.{Revision, nothing, entryAfresh, worked}
 use Rattle.rules.specs.declared.Form.{Form}
 use Rattle.rules.specs.declared.Setting.{Setting}
 use Rattle.rules.specs.declared.Record.{Record}
@@ -296,7 +299,7 @@ module _ {original : List ℕ} {p : ℕ} {h : List ℕ} {vs : List Revision} {st
       whole-back h' after locations whole-there locations-long refl (omega (arith, count-few)) (omega (arith, whole .behind, places .whole-ends, places .pages, places .record-ends))
       (rw (same-header .long, long) (committable .room))
 
-  header-reads : (headerRows h' ≡ 0) × (numberAt 8 h' (after .address + 8) ≡ after .count → settingOf h' ≡ after)
+  header-reads : (headerRows h' ≡ 0) × (countAt h' (after .address) ≡ after .count → settingOf h' ≡ after)
   header-reads = header-back h' after (header-stands with-whole after wide) (rw (same-header .long) wide) (rw (same-header .long, long) (places .short)) after-fits
 
   pub after-setting : settingOf h' ≡ after
@@ -312,7 +315,7 @@ module _ {original : List ℕ} {p : ℕ} {h : List ℕ} {vs : List Revision} {st
   old-located : part h' (locationAt after 1) (locationWidth * s .count) ≡ standing
   old-located = rw standing-long at (first-piece h' (locationAt after 1) standing (locationBytes f (r .address) (r .size)) all-located)
 
-  new-located : (addressAt f h' (locationAt after (suc (s .count))) ≡ r .address) × (numberAt 8 h' (locationAt after (suc (s .count)) + 8) ≡ r .size)
+  new-located : (addressAt f h' (locationAt after (suc (s .count))) ≡ r .address) × (locatedSize h' (locationAt after (suc (s .count))) ≡ r .size)
       × (sumStands h' (locationAt after (suc (s .count))) 16 (locationAt after (suc (s .count)) + 16) ≡ true)
   new-located =
       let at : ℕ = locationAt after (suc (s .count)) in

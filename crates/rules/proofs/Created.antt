@@ -7,8 +7,8 @@ use native.Mathlib.Omega.{arith}
 use lib.Dec.{leb}
 use lib.ListN.{length, getD}
 use borrow.Author.Tests.{leb-true, not-false}
-use Rattle.rules.specs.Bytes.{part, numberAt, laid}
-use Rattle.rules.specs.Layout.{pageAllowed, limit, sumsStand, headerWidth, headerBytes, settingOf, wholeSize, wholeBytes, headerEnd, emptyEnd, entriesAt, recordOf}
+use Rattle.rules.specs.Bytes.{part, laid}
+use Rattle.rules.specs.Layout.{pageAllowed, limit, sumsStand, headerWidth, headerBytes, settingOf, wholeSize, wholeBytes, headerEnd, emptyEnd, entriesAt, recordOf, countAt}
 use Rattle.rules.specs.View.{pageOf, revisionByte}
 use Rattle.rules.specs.Session.{createdForm, createdSetting, created}
 use Rattle.rules.specs.Rows.{creationWrong}
@@ -84,7 +84,7 @@ module _ (c : Creation) (passes : createRows (length (c .buffer)) (length (c .or
   whole-reads : WholeBack h s []
   whole-reads = whole-back h s [] whole-there refl refl (omega arith) (omega arith) (rw (same .long, long) (creatable .room))
 
-  header-reads : (headerRows h ≡ 0) × (numberAt 8 h (s .address + 8) ≡ s .count → settingOf h ≡ s)
+  header-reads : (headerRows h ≡ 0) × (countAt h (s .address) ≡ s .count → settingOf h ≡ s)
   header-reads =
       header-back h s (header-stands with-whole s wide) (rw (same .long) wide) (rw (same .long, long) (creatable .short))
       (record {

@@ -11,7 +11,8 @@ use Rattle.rules.specs.View.{noEntry, revisionByte}
 use Rattle.rules.specs.Session.{ended, locked, released}
 use Rattle.rules.specs.Rows.{pageSumWrong}
 use Rattle.rules.specs.Calls.{Reply, recordRows, readRows, readBytes, read, sessionRows, beginRows, heldRows, revisionIndex, openRows, openForWriting, sessionRead, writeRows, write, commitRows, commit, release}
-use Rattle.rules.specs.History.{Call, opens, writes, commits, releases, sessionReads, looks, Logged, Moment, answered, taken, next, after, fresh, Revision, nothing, worked, revisionsOf, Stands, Shows, Given, Kept, FromGiven}
+use Rattle.rules.specs.Moments.{Call, opens, writes, commits, releases, sessionReads, looks, Logged, Moment, answered, taken, next, after, fresh}
+use Rattle.rules.specs.History.{Revision, nothing, worked, revisionsOf, Stands, Shows, Given, Kept, FromGiven}
 use Rattle.rules.specs.declared.Setting.{Setting}
 use Rattle.rules.specs.declared.Entry.{Entry}
 use Rattle.rules.specs.declared.State.{State}

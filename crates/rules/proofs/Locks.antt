@@ -10,13 +10,14 @@ use native.Mathlib.Omega.{arith}
 use lib.Dec.{ltb, eqb}
 use lib.ListN.{length, getD}
 use borrow.Author.Tests.{ltb-false, leb-false}
-use Rattle.rules.specs.Bytes.{part, numberAt, laid}
-use Rattle.rules.specs.Layout.{revisionLimit, headerWidth, headerBytes, settingWith, settingOf, withLock, committedEnd, recordOf}
+use Rattle.rules.specs.Bytes.{part, laid}
+use Rattle.rules.specs.Layout.{revisionLimit, headerWidth, headerBytes, settingWith, settingOf, withLock, committedEnd, recordOf, countAt}
 use Rattle.rules.specs.View.{has, pageOf}
 use Rattle.rules.specs.Session.{locked, opened}
 use Rattle.rules.specs.Rows.{newest, revisionUnknown, notNewest, full, wholeWrong, pagesFit}
 use Rattle.rules.specs.Calls.{headerRows, asked, revisionIndex, openRows}
-use Rattle.rules.specs.History.{Revision, nothing, openedOn, laidOn, touchedBy}
+use Rattle.rules.specs.Moments.{openedOn}
+use Rattle.rules.specs.History.{Revision, nothing, laidOn, touchedBy}
 use Rattle.rules.specs.declared.Setting.{Setting}
 use Rattle.rules.specs.declared.State.{State}
 use Rattle.rules.proofs.Bytes.{length-laid, part-laid}
@@ -24,7 +25,7 @@ use Rattle.rules.proofs.Rows.{row-clear, then-clear}
 use Rattle.rules.proofs.Places.{end-behind}
 use Rattle.rules.proofs.Entries.{has-nowhere}
 use Rattle.rules.proofs.Writes.{byte-above, shown-parent}
-use Rattle.rules.proofs.Same.{Same, same-within, part-same}
+use Rattle.rules.proofs.Same.{Same, same-within, count-same}
 use Rattle.rules.proofs.Headers.{HeaderFacts, header-facts, WholeFacts, whole-facts, whole-same}
 use Rattle.rules.proofs.RoundTrips.{SettingFits, length-headerBytes, header-back}
 use Rattle.rules.proofs.Records.{Grown}
@@ -58,7 +59,7 @@ setting-fits h b f g = record {
   size = omega (arith, f .short, g .ends, end-behind (settingOf h .form) (settingOf h .address) (settingOf h .size));
 }
 
-count-stands : (h : List ℕ) → numberAt 8 h (settingOf h .address + 8) ≡ settingOf h .count
+count-stands : (h : List ℕ) → countAt h (settingOf h .address) ≡ settingOf h .count
 unfolding settingOf settingWith
 count-stands h = refl
 
@@ -85,14 +86,11 @@ module _ {original : List ℕ} {p : ℕ} {h : List ℕ} {vs : List Revision} (w 
   pub lock-behind : Same headerWidth (length h) h h'
   lock-behind = header-behind h (withLock b s) (first .front)
 
-  back : (headerRows h' ≡ 0) × (numberAt 8 h' (s .address + 8) ≡ s .count → settingOf h' ≡ withLock b s)
+  back : (headerRows h' ≡ 0) × (countAt h' (s .address) ≡ s .count → settingOf h' ≡ withLock b s)
   back = header-back h' (withLock b s) (header-stands h (withLock b s) (first .front)) (rw (lock-behind .long) (first .front)) (rw (lock-behind .long) (first .short)) (setting-fits h b first facts)
 
   pub lock-setting : settingOf h' ≡ withLock b s
-  lock-setting = back .1 (ap-count (part-same lock-behind (s .address + 8) 8 (omega (arith, far .0)) (omega (arith, far .1, facts .sized))) ∙ count-stands h)
-    where
-      ap-count : part h' (s .address + 8) 8 ≡ part h (s .address + 8) 8 → numberAt 8 h' (s .address + 8) ≡ numberAt 8 h (s .address + 8)
-      ap-count e = rw e
+  lock-setting = back .1 (count-same lock-behind (s .address) (far .0) (omega (arith, far .1, facts .sized)) ∙ count-stands h)
 
   pub lock-holds : Holds original p h' vs
   lock-holds =

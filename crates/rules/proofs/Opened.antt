@@ -15,7 +15,8 @@ use Rattle.rules.specs.View.{has, noEntry, pageOf, ownPages, sessionByte
 use Rattle.rules.specs.Session.{Held, touching}
 use Rattle.rules.specs.Rows.{readOutside, writeOutside, sessionWrong, sizeBelowParent, writeTooFar, tooMany, noRoom}
 use Rattle.rules.specs.Calls.{row, _then_, sessionRows, revisionIndex, beginRows, sessionReadRows, sessionRead, writeRows}
-use Rattle.rules.specs.History.{Write, Logged, noting, laidOn, touchedBy, Revision, nothing}
+use Rattle.rules.specs.Moments.{Write, Logged, noting}
+use Rattle.rules.specs.History.{laidOn, touchedBy, Revision, nothing}
 use Rattle.rules.specs.declared.Setting.{Setting}
 use Rattle.rules.specs.declared.Entry.{Entry}
 use Rattle.rules.specs.declared.State.{State}

@@ -7,7 +7,7 @@ use native.Mathlib.Omega.{arith}
 use lib.ListN.{length, getD}
 use borrow.Author.Tests.{le-leb, lt-ltb, eq-eqb, leb-true, eqb-true, not-false}
 use lib.Dec.{leb, ltb, eqb}
-use Rattle.rules.specs.Bytes.{part, numberAt, same}
+use Rattle.rules.specs.Bytes.{part, same}
 use Rattle.rules.specs.Layout.{
   limit,
   entryLimit,
@@ -18,14 +18,13 @@ use Rattle.rules.specs.Layout.{
   entrySumAt,
   entryWidth,
   entriesWidth,
-  entryCountAt,
-  nameSizeAt,
-  commentSizeAt,
   frontWidth,
   sumStands,
   versionBytes,
   headerWidth,
+  wholeSize,
   locationAt,
+  headerEnd,
   emptyEnd,
   recordSize,
   recordAt,
@@ -33,6 +32,7 @@ use Rattle.rules.specs.Layout.{
   indexOf,
   nameAt,
   nameOf,
+  commentAt,
   commentOf,
   recordOf,
   within,
@@ -48,10 +48,10 @@ use Rattle.rules.specs.declared.Setting.{Setting}
 use Rattle.rules.specs.declared.Record.{Record}
 use Rattle.rules.specs.declared.Entry.{Entry}
 use Rattle.rules.proofs.Rows.{both, row-clear, then-clear}
-use Rattle.rules.proofs.Places.{end-behind, count-least, entry-least, entries-product, address-same}
+use Rattle.rules.proofs.Places.{end-behind, entry-least, entries-product}
 use Rattle.rules.proofs.Entries.{EntryRight}
 use Rattle.rules.proofs.Rising.{RisingFrom, from-front}
-use Rattle.rules.proofs.Same.{Same, part-same, part-front, number-moved, sums-moved, entries-moved}
+use Rattle.rules.proofs.Same.{Same, part-same, part-front, sums-moved, entries-moved, location-same, record-same, fields-same}
 
 -- ---- Row 7
 
@@ -156,7 +156,7 @@ entries-form s s' r e next (x ∷ index) = rw (entries-form s s' r e (x .logical
 
 -- The least address of a record lies behind the header.
 pub empty-behind : (f : Form) → headerWidth ≤ emptyEnd f
-empty-behind f = omega (arith, end-behind f 0 headerWidth, end-behind f (endOf f 0 headerWidth) 20)
+empty-behind f = omega (arith, end-behind f 0 headerWidth, end-behind f (headerEnd f) (wholeSize 0))
 
 -- The history as it goes on: the same form and original, the bytes ahead of the whole history unchanged, and the locations too, though
 -- they may stand elsewhere.
@@ -187,19 +187,15 @@ module _ {h h' : List ℕ} {s s' : Setting} (w : Grown h s h' s') (k : ℕ) (kno
   front-long : frontWidth (s .form) + 4 ≤ r .size
   front-long = omega (arith, inside .2)
 
-  -- A number of it.
-  field : (width at : ℕ) → at + width ≤ frontWidth (s .form) → numberAt width h' (r .address + at) ≡ numberAt width h (r .address + at)
-  field width at l = number-moved width h h' (r .address) (r .address) (r .size) kept at (omega (arith, front-long))
+  -- Its front.
+  kept-front : part h' (r .address) (frontWidth (s .form)) ≡ part h (r .address) (frontWidth (s .form))
+  kept-front = part-front h h' (r .address) (r .address) (r .size) kept (frontWidth (s .form)) (omega (arith, front-long))
 
   pub record-grown : recordOf h' s' (suc k) ≡ r
   unfolding recordOf recordAt
   record-grown =
-      let f : Form = s .form in
-      let e = w .located (suc k) (omega arith) known in
-      let a = address-same f h' h (locationAt s' (suc k)) (locationAt s (suc k)) (part-front h h' (locationAt s (suc k)) (locationAt s' (suc k)) 16 e 8 (omega arith)) in
-      let z = number-moved 8 h h' (locationAt s (suc k)) (locationAt s' (suc k)) 16 e 8 (omega arith) in
-      let c = count-least f in
-      rw (w .form, a, z, field 8 8 (omega arith), field 8 16 (omega arith), field 8 40 (omega arith), field 4 48 (omega arith), field 8 (entryCountAt f) (omega arith), field 4 (nameSizeAt f) (omega arith), field 4 (commentSizeAt f) (omega arith))
+      let at = location-same h h' s s' (suc k) (w .form) (w .located (suc k) (omega arith) known) in
+      rw (at .0, at .1, w .form) (record-same h h' (s .form) (r .address) (r .size) kept-front)
 
   pub index-grown : revisionIndex h' s' (suc k) ≡ revisionIndex h s (suc k)
   index-grown =
@@ -208,11 +204,8 @@ module _ {h h' : List ℕ} {s s' : Setting} (w : Grown h s h' s') (k : ℕ) (kno
       (kept-part (r .address + frontWidth (s .form)) (entriesWidth (s .form) (r .entries)) (omega arith) (omega (arith, inside .2))))
 
   right-grown : RecordRight h' s' (suc k) r
-  unfolding recordFields
   right-grown =
       let l = right .lies in
-      let f = front-long in
-      let c = count-least (s .form) in
       let size = inside .2 in
       record {
         lies = rw (w .form) (record {
@@ -223,10 +216,10 @@ module _ {h h' : List ℕ} {s s' : Setting} (w : Grown h s h' s') (k : ℕ) (kno
           named = l .named;
           commented = l .commented;
         });
-        fields = rw (w .form, w .original, kept-part (r .address) 4 (omega arith) (omega arith), kept-part (r .address + 4) 4 (omega arith) (omega arith), kept-part (r .address + 24) 16 (omega arith) (omega arith)) (right .fields);
+        fields = fields-same h h' s s' (suc k) r (w .form) (w .original) kept-front ∙ right .fields;
         entries = entries-form s s' r (w .form) 0 _ ∙ rw (w .form) (rw (record-grown, w .form) at (ap (entriesRight s r 0) index-grown) ∙ right .entries);
         named = rw (w .form, kept-part (nameAt (s .form) r) (r .name) (omega arith) (omega arith)) (right .named);
-        commented = rw (w .form, kept-part (nameAt (s .form) r + r .name) (r .comment) (omega arith) (omega arith)) (right .commented);
+        commented = rw (w .form, kept-part (commentAt (s .form) r) (r .comment) (omega arith) (omega arith)) (right .commented);
       }
 
   sums-grown : recordSumWrong h' (s' .form) r ≡ false

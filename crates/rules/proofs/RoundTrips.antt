@@ -62,6 +62,8 @@ use Rattle.rules.specs.Layout.{
   nameAt,
   nameOf,
   commentOf,
+  countAt,
+  locatedSize,
 }
 use Rattle.rules.specs.View.{noEntry}
 use Rattle.rules.specs.Rows.{lengthWrong, headerWrong, headerSumWrong, wholeWrong, recordSumWrong}
@@ -171,7 +173,7 @@ unfolding locationBytes
 length-locationBytes f a size = length-summed _ ∙ simp (length-append, length-numberBytes, length-addressBytes f a)
 
 pub location-back : (f : Form) (xs : List ℕ) (at a size : ℕ) → part xs at locationWidth ≡ locationBytes f a size → a ≤ limit → size ≤ limit
-    → (addressAt f xs at ≡ a) × (numberAt 8 xs (at + 8) ≡ size) × (sumStands xs at 16 (at + 16) ≡ true)
+    → (addressAt f xs at ≡ a) × (locatedSize xs at ≡ size) × (sumStands xs at 16 (at + 16) ≡ true)
 unfolding locationBytes summed
 location-back f xs at a size e ha hs =
     let place : List ℕ = addressBytes f a ++ numberBytes 8 size in
@@ -301,7 +303,7 @@ module _ (xs : List ℕ) (s : Setting) (stands : part xs 0 headerWidth ≡ heade
       rw (form-back, signature-back, version-back, flag-back 0 (omega arith), flag-back 1 (omega arith), flag-back 2 (omega arith), page-back, original-back)
       (rw (eq-eqb (version (s .form)) _ refl, flags-back (s .lock) (s .branching) .few, fits .page, le-leb _ _ (fits .original)))
 
-  setting-back : numberAt 8 xs (s .address + 8) ≡ s .count → settingOf xs ≡ s
+  setting-back : countAt xs (s .address) ≡ s .count → settingOf xs ≡ s
   unfolding settingOf settingWith flagsOf
   setting-back counted =
       rw (form-back, address-read, counted, original-back, size-back, flag-back 0 (omega arith), flags-back (s .lock) (s .branching) .locks, flags-back (s .lock) (s .branching) .branches)
@@ -312,7 +314,7 @@ module _ (xs : List ℕ) (s : Setting) (stands : part xs 0 headerWidth ≡ heade
 
 -- Rows 1, 2 and 3 pass, and its fields are read back; the count stands in the whole history.
 pub header-back : (xs : List ℕ) (s : Setting) → part xs 0 headerWidth ≡ headerBytes s → headerWidth ≤ length xs → length xs ≤ limit → SettingFits s
-    → (headerRows xs ≡ 0) × (numberAt 8 xs (s .address + 8) ≡ s .count → settingOf xs ≡ s)
+    → (headerRows xs ≡ 0) × (countAt xs (s .address) ≡ s .count → settingOf xs ≡ s)
 header-back xs s stands l m fits = (header-rows xs s stands fits l m, setting-back xs s stands fits)
 
 -- ---- how whole history and record start
@@ -352,7 +354,7 @@ unfolding wholeBytes
 length-wholeBytes f n locations e = length-summed _ ∙ omega (arith, unsummed-long f n locations e)
 
 pub record WholeBack (xs : List ℕ) (s : Setting) (locations : List ℕ) : Type 0 where
-  pub counted : numberAt 8 xs (s .address + 8) ≡ s .count
+  pub counted : countAt xs (s .address) ≡ s .count
   pub located : part xs (locationAt s 1) (locationWidth * s .count) ≡ locations
   -- row 5, once the locations' checksums stand
   pub right : sumsStand locationWidth 16 xs (locationAt s 1) (s .count) ≡ true → wholeWrong xs s ≡ false

@@ -8,10 +8,30 @@ use native.Mathlib.Omega.{arith}
 use lib.ListN.{length, length-take, length-drop}
 use lib.Seq.{ext-getD}
 use Rattle.rules.specs.Bytes.{byteAt, part, numberAt}
-use Rattle.rules.specs.Layout.{sumStands, sumsStand, entrySumAt, entryWidth, entriesWidth, entriesAt}
+use Rattle.rules.specs.Layout.{
+  sumStands,
+  sumsStand,
+  addressAt,
+  entrySumAt,
+  entryWidth,
+  entriesWidth,
+  entryCountAt,
+  nameSizeAt,
+  commentSizeAt,
+  frontWidth,
+  countAt,
+  wholeSize,
+  locatedSize,
+  locationAt,
+  entriesAt,
+  recordAt,
+}
+use Rattle.rules.specs.Rows.{recordFields}
 use Rattle.rules.specs.declared.Form.{Form}
+use Rattle.rules.specs.declared.Setting.{Setting}
+use Rattle.rules.specs.declared.Record.{Record}
 use Rattle.rules.proofs.Bytes.{byte-part, part-part}
-use Rattle.rules.proofs.Places.{entry-least, entries-next, address-same, page-sum-same}
+use Rattle.rules.proofs.Places.{count-least, entry-least, entries-next, address-same, page-sum-same}
 
 -- ---- a stretch
 
@@ -75,3 +95,33 @@ entries-moved f h h' (suc n) at to e =
     let physical = address-same f h' h (to + 8) (at + 8) (part-inside h h' at to (entriesWidth f (suc n)) e 8 8 (omega arith)) in
     let sum = part-front h h' at to (entriesWidth f (suc n)) e (entrySumAt f) (omega arith) in
     rw (logical, physical, page-sum-same f h' h to at sum, entries-moved f h h' n (at + entryWidth f) (to + entryWidth f) (part-inside h h' at to (entriesWidth f (suc n)) e (entryWidth f) (entriesWidth f n) (omega arith)))
+
+-- The whole history's count.
+pub count-same : {low high : ℕ} {h h' : List ℕ} → Same low high h h' → (at : ℕ) → low ≤ at → at + wholeSize 0 ≤ high → countAt h' at ≡ countAt h at
+count-same w at l m = rw (part-same w (at + 8) 8 (omega arith) (omega arith))
+
+-- A location.
+pub location-same : (h h' : List ℕ) (s s' : Setting) (k : ℕ) → s' .form ≡ s .form → part h' (locationAt s' k) 16 ≡ part h (locationAt s k) 16
+    → (addressAt (s' .form) h' (locationAt s' k) ≡ addressAt (s .form) h (locationAt s k)) × (locatedSize h' (locationAt s' k) ≡ locatedSize h (locationAt s k))
+location-same h h' s s' k form e =
+    let at : ℕ = locationAt s k in
+    let to : ℕ = locationAt s' k in
+    (rw form (address-same (s .form) h' h to at (part-front h h' at to 16 e 8 (omega arith))), number-moved 8 h h' at to 16 e 8 (omega arith))
+
+-- A record: its fields, and what row 7 asks of them, stand ahead of its entries.
+module _ (h h' : List ℕ) where
+  pub record-same : (f : Form) (at size : ℕ) → part h' at (frontWidth f) ≡ part h at (frontWidth f) → recordAt f h' at size ≡ recordAt f h at size
+  unfolding recordAt
+  record-same f at size e =
+      let c = count-least f in
+      let field : (w k : ℕ) → k + w ≤ frontWidth f → numberAt w h' (at + k) ≡ numberAt w h (at + k) = λ w k l. number-moved w h h' at at (frontWidth f) e k l in
+      rw (field 8 8 (omega arith), field 8 16 (omega arith), field 8 40 (omega arith), field 4 48 (omega arith), field 8 (entryCountAt f) (omega arith), field 4 (nameSizeAt f) (omega arith), field 4 (commentSizeAt f) (omega arith))
+
+  pub fields-same : (s s' : Setting) (k : ℕ) (r : Record) → s' .form ≡ s .form → s' .original ≡ s .original
+      → part h' (r .address) (frontWidth (s .form)) ≡ part h (r .address) (frontWidth (s .form)) → recordFields h' s' k r ≡ recordFields h s k r
+  unfolding recordFields
+  fields-same s s' k r form original e =
+      let at : ℕ = r .address in
+      let c = count-least (s .form) in
+      let inside : (k n : ℕ) → k + n ≤ frontWidth (s .form) → part h' (at + k) n ≡ part h (at + k) n = λ k n l. part-inside h h' at at (frontWidth (s .form)) e k n l in
+      rw (form, original, part-front h h' at at (frontWidth (s .form)) e 4 (omega arith), inside 4 4 (omega arith), inside 24 16 (omega arith))

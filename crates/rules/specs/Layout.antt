@@ -106,10 +106,13 @@ entryWidth f = entrySumAt f + 4
 unfoldable pub entriesWidth : Form → ℕ → ℕ
 entriesWidth f n = n * entryWidth f
 
--- "user ID (4)" in a record, behind the page size; and how far behind a record's start the entry count stands that follows it. Behind
--- that stand the two sizes, and then the entries.
+-- "user ID (4)" in a record, behind the page size, as bytes and as it is read of the record at an address; and how far behind a record's
+-- start the entry count stands that follows it. Behind that stand the two sizes, and then the entries.
 unfoldable pub userBytes : Form → ℕ → List ℕ
 userBytes f user = numberBytes 4 user
+
+unfoldable pub userAt : Form → List ℕ → ℕ → ℕ
+userAt f history at = numberAt 4 history (at + 52)
 
 unfoldable pub entryCountAt : Form → ℕ
 entryCountAt f = 56
@@ -176,8 +179,11 @@ settingWith history count = record {
 }
 
 -- and with the whole history's count, which stands behind its signature and version.
+abbrev pub countAt : List ℕ → ℕ → ℕ
+countAt history at = numberAt 8 history (at + 8)
+
 unfoldable pub settingOf : List ℕ → Setting
-settingOf history = settingWith history (numberAt 8 history (addressAt (formOf history) history 20 + 8))
+settingOf history = settingWith history (countAt history (addressAt (formOf history) history 20))
 
 -- The setting with its lock set or clear.
 abbrev pub withLock : Bool → Setting → Setting
@@ -211,6 +217,10 @@ locationWidth = 20
 
 unfoldable pub locationBytes : Form → ℕ → ℕ → List ℕ
 locationBytes f at size = summed (addressBytes f at ++ numberBytes 8 size)
+
+-- The record size of the location at an address; the record's address is the one that stands there.
+abbrev pub locatedSize : List ℕ → ℕ → ℕ
+locatedSize history at = numberAt 8 history (at + 8)
 
 -- "Location k, counted from 1, belongs to revision k": where it stands, behind the whole history's first 16 bytes.
 abbrev pub locationAt : Setting → ℕ → ℕ
@@ -287,8 +297,11 @@ recordAt f history at size = record {
   comment = numberAt 4 history (at + commentSizeAt f);
 }
 
+abbrev pub timeAt : Record → ℕ
+timeAt r = r .address + 24
+
 abbrev pub timeOf : List ℕ → Record → List ℕ
-timeOf history r = part history (r .address + 24) 16
+timeOf history r = part history (timeAt r) 16
 
 -- The record's index, its name and its comment.
 abbrev pub indexOf : List ℕ → Form → Record → List Entry
@@ -300,8 +313,11 @@ nameAt f r = r .address + frontWidth f + entriesWidth f (r .entries)
 abbrev pub nameOf : List ℕ → Form → Record → List ℕ
 nameOf history f r = part history (nameAt f r) (r .name)
 
+abbrev pub commentAt : Form → Record → ℕ
+commentAt f r = nameAt f r + r .name
+
 abbrev pub commentOf : List ℕ → Form → Record → List ℕ
-commentOf history f r = part history (nameAt f r + r .name) (r .comment)
+commentOf history f r = part history (commentAt f r) (r .comment)
 
 -- "Revision 0 is the original; it has no record": in a record's place stands one with no entries and the original's length.
 abbrev pub noRecord : Setting → Record
@@ -322,7 +338,7 @@ unfoldable pub recordOf : List ℕ → Setting → ℕ → Record
 recordOf history s zero = noRecord s
 recordOf history s (suc k) =
     let at = locationAt s (suc k) in
-    recordAt (s .form) history (addressAt (s .form) history at) (numberAt 8 history (at + 8))
+    recordAt (s .form) history (addressAt (s .form) history at) (locatedSize history at)
 
 -- ---- Time, name and comment
 

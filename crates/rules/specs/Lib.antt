@@ -7,4 +7,6 @@ pub mod Session
 pub mod Rows
 pub mod Calls
 pub mod Listing
+pub mod Telling
+pub mod Moments
 pub mod History

@@ -18,11 +18,11 @@ use Rattle.rules.specs.declared.Record.{Record}
 abbrev pub listLimit : ℕ
 listLimit = 65536
 
--- "the first fault by 1, 2, 3, 5, then .. 7 and 8 (longer input counts as 1)"
-unfoldable pub listRows : List ℕ → ℕ
-listRows history =
+-- "the first fault by 1, 2, 3, 5, then .. 7 and 8 (longer input counts as 1)", of a history of at most so many bytes.
+unfoldable pub listRows : ℕ → List ℕ → ℕ
+listRows most history =
     let s = settingOf history in
-    row 1 (lengthWrong headerWidth (length history) || ltb listLimit (length history))
+    row 1 (lengthWrong headerWidth (length history) || ltb most (length history))
     then row 2 (headerWrong history)
     then row 3 (headerSumWrong history)
     then row 5 (wholeWrong history s)
@@ -97,10 +97,10 @@ recordLines history s k zero = []
 recordLines history s k (suc m) = recordLine history (s .form) (recordOf history s k) ++ recordLines history s (suc k) m
 
 -- "It prints `refused N` and nothing else for the first fault".
-unfoldable pub listText : List ℕ → List ℕ
-listText history =
+unfoldable pub listText : ℕ → List ℕ → List ℕ
+listText most history =
     let s = settingOf history in
-    let number = listRows history in
+    let number = listRows most history in
     accepted number (settingLine s ++ recordLines history s 1 (s .count)) (refusedWord ++ decimal number ++ newline)
 
 -- What is left in a buffer that is lent for the text: the text from its start on, where there is room for all of it, else nothing new.
@@ -109,7 +109,7 @@ pub record Listed : Type 0 where
   pub length : ℕ
   pub bytes : List ℕ
 
-unfoldable pub list : List ℕ → List ℕ → Listed
-list history out =
-    let text = listText history in
+unfoldable pub list : ℕ → List ℕ → List ℕ → Listed
+list most history out =
+    let text = listText most history in
     record { length = length text; bytes = cond (leb (length text) (length out)) (laid out 0 text) out }

@@ -75,6 +75,41 @@ pub struct Checked {
     pub entry: u64,
 }
 
+// A part of the history: where it starts, and its length.
+#[repr(C)]
+pub struct Part {
+    pub offset: u64,
+    pub length: u64,
+}
+
+// What a history tells its user of itself: the page size, the original's length, how many revisions stand, the committed end, and
+// whether the lock is set and branching allowed. All zeros but the number where it is refused.
+#[repr(C)]
+pub struct SettingTold {
+    pub number: u64,
+    pub page: u64,
+    pub original: u64,
+    pub revisions: u64,
+    pub end: u64,
+    pub lock: bool,
+    pub branching: bool,
+}
+
+// What a revision's record tells: the revision, its parent, its logical size, the user ID, how many index entries it has, and where its
+// time, name and comment stand. Of the original only its length; all zeros but the number where it is refused.
+#[repr(C)]
+pub struct RecordTold {
+    pub number: u64,
+    pub revision: u64,
+    pub parent: u64,
+    pub logical: u64,
+    pub user: u64,
+    pub entries: u64,
+    pub time: Part,
+    pub name: Part,
+    pub comment: Part,
+}
+
 // Where a revision's record stands in the history: of length 0 for revision 0 and where it is refused.
 #[repr(C)]
 pub struct Browsed {

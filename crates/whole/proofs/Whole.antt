@@ -7,7 +7,7 @@ use native.Mathlib.Omega.{arith}
 use lib.Dec.{leb}
 use lib.ListN.{length}
 use borrow.Author.Tests.{le-leb, eq-eqb, ne-eqb, leb-true}
-use Rattle.rules.specs.Bytes.{part, numberAt, same}
+use Rattle.rules.specs.Bytes.{part, same}
 use Rattle.rules.specs.Layout.{
   wholeSignature,
   versionBytes,
@@ -20,6 +20,7 @@ use Rattle.rules.specs.Layout.{
   locationWidth,
   locationAt,
   headerEnd,
+  countAt,
 }
 use Rattle.rules.specs.Rows.{originalWrong, wholeWrong}
 use Rattle.rules.specs.declared.Setting.{Setting}
@@ -64,7 +65,7 @@ unfolding settingOf settingWith
 front-lies h e f = whole-fault h (settingOf h) (λ w. f (rw e (record { behind = w .behind; ends = w .ends; sized = omega (arith, w .sized) })))
 
 -- The setting with the count that stands behind its start; it lies where the header says.
-pub counted-setting : (h : List ℕ) {front t : Setting} {n : ℕ} → front ≡ settingWith h 0 → n ≡ numberAt 8 h (front .address + 8) → t ≡ settingWith h n → t ≡ settingOf h
+pub counted-setting : (h : List ℕ) {front t : Setting} {n : ℕ} → front ≡ settingWith h 0 → n ≡ countAt h (front .address) → t ≡ settingWith h n → t ≡ settingOf h
 unfolding settingOf settingWith
 counted-setting h e f g = rw (g, f, e)
 

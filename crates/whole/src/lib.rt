@@ -8,7 +8,7 @@ ghost use mathlib.Core.Bool.{true, false};
 ghost use mathlib.Core.List.{[]};
 ghost use Prim.Native.Nat.{_+_, _≤_, _<_};
 ghost use lib.ListN.{length};
-ghost use Rattle.rules.specs.Bytes.{numberAt, laid};
+ghost use Rattle.rules.specs.Bytes.{laid};
 ghost use Rattle.rules.specs.Layout.{
   limit,
   addressAt,
@@ -18,6 +18,7 @@ ghost use Rattle.rules.specs.Layout.{
   locationWidth,
   locationBytes,
   locationAt,
+  locatedSize,
 };
 ghost use Rattle.rules.specs.Session.{settingStored, locationsStored};
 ghost use Rattle.rules.specs.Rows.{wholeWrong};
@@ -155,7 +156,7 @@ pub struct Location {
 // The location of a revision from 1 on.
 pub fn location_of(history: &[u8], s: Setting, k: u64) -> Location
     requires { ⌜ (Sound (now history) s) × (0 < k) × (k ≤ s .count) ⌝ }
-    ensures { λ r. ⌜ (r .address ≡ addressAt (s .form) (now (history .entry)) (locationAt s k)) × (r .size ≡ numberAt 8 (now (history .entry)) (locationAt s k + 8)) ⌝ }
+    ensures { λ r. ⌜ (r .address ≡ addressAt (s .form) (now (history .entry)) (locationAt s k)) × (r .size ≡ locatedSize (now (history .entry)) (locationAt s k)) ⌝ }
 {
     let form = s.form;
     let at = s.address as usize + FRONT + layout::LOCATION * (k - 1) as usize;

@@ -2,8 +2,9 @@
 
 use crate::histories::{accepted, Store};
 use crate::timing::{best, Seconds};
-use compare::proved;
+use compare::proved::c_session;
 use forge::TIME;
+use onion::raw as proved;
 use twin::Session;
 
 /// A read of so many bytes from the start of a revision.
@@ -23,10 +24,11 @@ pub fn read(store: &Store, revision: u64, length: usize) -> [Seconds; 2] {
 /// again.
 pub fn write(store: &Store, session: Session, at: u64, data: &[u8]) -> [Seconds; 2] {
     let (mut ours, mut theirs) = (store.clone(), store.clone());
+    let lent = c_session(session);
     let times = best([
         &mut || {
             let Store { original, history } = &mut ours;
-            accepted(proved::write(session, original, history, at, data).number);
+            accepted(proved::write(lent, original, history, at, data).number);
         },
         &mut || {
             let Store { original, history } = &mut theirs;
@@ -42,10 +44,11 @@ pub fn write(store: &Store, session: Session, at: u64, data: &[u8]) -> [Seconds;
 pub fn commit(store: &Store, session: Session) -> [Seconds; 2] {
     let (mut ours, mut theirs) = (store.history.clone(), store.history.clone());
     let header = &store.history[..40];
+    let lent = c_session(session);
     let times = best([
         &mut || {
             ours[..40].copy_from_slice(header);
-            let answer = proved::commit(session, &mut ours, TIME, 7, b"ana\0", b"\0");
+            let answer = proved::commit(lent, &mut ours, TIME, 7, b"ana\0", b"\0");
             accepted(answer.number);
         },
         &mut || {

@@ -11,13 +11,14 @@
 
 use crate::histories::{self, Store};
 use crate::timing::grouped;
-use compare::proved::exported::*;
+use compare::proved::c_session;
 use forge::{NEWEST, TIME};
+use onion_sys::*;
 use std::arch::{asm, naked_asm};
 use std::ffi::c_void;
 use std::hint::black_box;
 use std::mem::{transmute, MaybeUninit};
-use twin::{Answer, Browsed, Checked, Found, Session, Step};
+use twin::Session;
 
 const SIZE: usize = 1 << 20;
 
@@ -34,9 +35,9 @@ extern "C" fn nothing() {
 #[derive(Clone, Copy)]
 struct Exported {
     create: unsafe extern "C" fn(*mut u8, usize, u64, u64, bool) -> u64,
-    open: unsafe extern "C" fn(*const u8, usize, *mut u8, usize, u64) -> MaybeUninit<Answer>,
+    open: unsafe extern "C" fn(*const u8, usize, *mut u8, usize, u64) -> MaybeUninit<onion_answer>,
     write: unsafe extern "C" fn(
-        Session,
+        onion_session,
         *const u8,
         usize,
         *mut u8,
@@ -44,9 +45,9 @@ struct Exported {
         u64,
         *const u8,
         usize,
-    ) -> MaybeUninit<Answer>,
+    ) -> MaybeUninit<onion_answer>,
     commit: unsafe extern "C" fn(
-        Session,
+        onion_session,
         *mut u8,
         usize,
         *const u8,
@@ -56,11 +57,11 @@ struct Exported {
         usize,
         *const u8,
         usize,
-    ) -> MaybeUninit<Answer>,
-    release: unsafe extern "C" fn(Session, *mut u8, usize) -> MaybeUninit<Answer>,
+    ) -> MaybeUninit<onion_answer>,
+    release: unsafe extern "C" fn(onion_session, *mut u8, usize) -> MaybeUninit<onion_answer>,
     read: unsafe extern "C" fn(*const u8, usize, *const u8, usize, u64, u64, *mut u8, usize) -> u64,
     session_read: unsafe extern "C" fn(
-        Session,
+        onion_session,
         *const u8,
         usize,
         *const u8,
@@ -68,12 +69,21 @@ struct Exported {
         u64,
         *mut u8,
         usize,
-    ) -> MaybeUninit<Answer>,
-    look_up:
-        unsafe extern "C" fn(*const u8, usize, *const u8, usize, u64, u64) -> MaybeUninit<Found>,
-    check: unsafe extern "C" fn(*const u8, usize) -> MaybeUninit<Checked>,
-    browse: unsafe extern "C" fn(*const u8, usize, u64) -> MaybeUninit<Browsed>,
-    browse_step: unsafe extern "C" fn(*const u8, usize, u64) -> MaybeUninit<Step>,
+    ) -> MaybeUninit<onion_answer>,
+    look_up: unsafe extern "C" fn(
+        *const u8,
+        usize,
+        *const u8,
+        usize,
+        u64,
+        u64,
+    ) -> MaybeUninit<onion_found>,
+    check: unsafe extern "C" fn(*const u8, usize) -> MaybeUninit<onion_checked>,
+    setting_of: unsafe extern "C" fn(*const u8, usize) -> MaybeUninit<onion_setting>,
+    record_of: unsafe extern "C" fn(*const u8, usize, u64) -> MaybeUninit<onion_record>,
+    list: unsafe extern "C" fn(*const u8, usize, *mut u8, usize) -> u64,
+    browse: unsafe extern "C" fn(*const u8, usize, u64) -> MaybeUninit<onion_browsed>,
+    browse_step: unsafe extern "C" fn(*const u8, usize, u64) -> MaybeUninit<onion_step>,
     checksum: unsafe extern "C" fn(*const u8, usize) -> u32,
 }
 
@@ -96,6 +106,9 @@ fn proved() -> Exported {
         session_read: onion_session_read,
         look_up: onion_look_up,
         check: onion_check,
+        setting_of: onion_setting_of,
+        record_of: onion_record_of,
+        list: onion_list,
         browse: onion_browse,
         browse_step: onion_browse_step,
         checksum: onion_checksum,
@@ -114,6 +127,9 @@ fn none() -> Exported {
         session_read: nothing,
         look_up: nothing,
         check: nothing,
+        setting_of: nothing,
+        record_of: nothing,
+        list: nothing,
         browse: nothing,
         browse_step: nothing,
         checksum: nothing,
@@ -123,19 +139,20 @@ fn none() -> Exported {
 /// Inputs of all calls. The caller's frame is the same for whatever functions it is given.
 struct Inputs {
     store: Store,
-    session: Session,
+    session: onion_session,
     revision: u64,
     at: u64,
     data: Vec<u8>,
     name: Vec<u8>,
     record: Vec<u8>,
+    text: Vec<u8>,
 }
 
 type Caller = fn(&mut Inputs, &Exported);
 
 /// Each call, the words that lie on the stack by the convention beside the session, whether a session does, and its
 /// caller.
-const CALLERS: [(&str, usize, bool, Caller); 12] = [
+const CALLERS: [(&str, usize, bool, Caller); 15] = [
     ("create", 0, false, |inputs, call| {
         let history = &mut inputs.store.history;
         let create = call.create;
@@ -247,6 +264,29 @@ const CALLERS: [(&str, usize, bool, Caller); 12] = [
         let check = call.check;
         black_box(unsafe { check(history.as_ptr(), history.len()) });
     }),
+    ("setting", 0, false, |inputs, call| {
+        let history = &inputs.store.history;
+        let setting_of = call.setting_of;
+        black_box(unsafe { setting_of(history.as_ptr(), history.len()) });
+    }),
+    ("record", 0, false, |inputs, call| {
+        let history = &inputs.store.history;
+        let record_of = call.record_of;
+        black_box(unsafe { record_of(history.as_ptr(), history.len(), inputs.revision) });
+    }),
+    ("list", 0, false, |inputs, call| {
+        let history = &inputs.store.history;
+        let text = &mut inputs.text;
+        let list = call.list;
+        black_box(unsafe {
+            list(
+                history.as_ptr(),
+                history.len(),
+                text.as_mut_ptr(),
+                text.len(),
+            )
+        });
+    }),
     ("browse", 0, false, |inputs, call| {
         let history = &inputs.store.history;
         let browse = call.browse;
@@ -314,11 +354,12 @@ pub fn print() {
     for (name, words, session, caller) in CALLERS {
         let mut deepest = 0;
         for (make, locked) in INPUTS.iter().flat_map(|make| [(make, true), (make, false)]) {
-            for paint in [0xA5, 0x5A] {
-                let [full, empty] = [proved(), none()].map(|exported| {
+            let [full, empty] = [proved(), none()].map(|exported| {
+                // A stored byte that has the paint's value is not seen, so the deeper of two paints counts.
+                let depths = [0xA5, 0x5A].map(|paint| {
                     let mut inputs = make();
                     if !locked {
-                        twin::release(inputs.session, &mut inputs.store.history);
+                        twin::release(Session::ENDED, &mut inputs.store.history);
                     }
                     let run = Run {
                         caller,
@@ -327,10 +368,15 @@ pub fn print() {
                     };
                     depth(&mut stack, paint, run)
                 });
-                deepest = deepest.max(full - empty);
-            }
+                depths[0].max(depths[1])
+            });
+            deepest = deepest.max(full - empty);
         }
-        let session = if session { size_of::<Session>() } else { 0 };
+        let session = if session {
+            size_of::<onion_session>()
+        } else {
+            0
+        };
         let all = deepest + 8 + 8 * words + session;
         let (deepest, together) = (grouped(deepest as u64), grouped(all as u64));
         println!("| {name} | {deepest} bytes | {together} bytes |");
@@ -396,7 +442,8 @@ fn inputs(mut store: Store, pages: u64, name: &[u8]) -> Inputs {
     let length = store.original.len().min(100_000);
     Inputs {
         record: store.history[record].to_vec(),
-        session,
+        text: vec![0; ONION_LIST_MOST],
+        session: c_session(session),
         revision: NEWEST,
         at: 10,
         data: vec![3; length.min(3_000)],

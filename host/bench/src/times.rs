@@ -3,8 +3,10 @@
 use crate::calls;
 use crate::histories::{self, accepted, Store};
 use crate::timing::{best, grouped, line, ROUNDS};
-use compare::proved;
+use compare::proved as compared;
 use forge::{Random, TIME};
+use onion::raw as proved;
+use onion_sys::ONION_LIST_MOST;
 use std::hint::black_box;
 
 const MEBIBYTE: usize = 1 << 20;
@@ -147,7 +149,7 @@ fn look_ups() {
         ),
     ] {
         assert_eq!(
-            proved::look_up(original, history, 16, address),
+            compared::look_up(original, history, 16, address),
             twin::look_up(original, history, 16, address)
         );
         let times = best([
@@ -158,7 +160,6 @@ fn look_ups() {
     }
 }
 
-/// The C interface has no list; browsing finds and judges each record as the list does.
 fn many_revisions() {
     let store = histories::with_revisions(1_024);
     let history = &store.history;
@@ -174,4 +175,29 @@ fn many_revisions() {
         "browsing of the records of all 1,024 revisions, one call each",
         times,
     );
+    let times = best([
+        &mut || accepted(proved::setting_of(history).number),
+        &mut || accepted(twin::setting_of(history).number),
+    ]);
+    line("what a history of 1,024 revisions says of itself", times);
+    let times = best([
+        &mut || (1..=1_024).for_each(|k| accepted(proved::record_of(history, k).number)),
+        &mut || (1..=1_024).for_each(|k| accepted(twin::record_of(history, k).number)),
+    ]);
+    line(
+        "what the records of all 1,024 revisions say, one call each",
+        times,
+    );
+    let mut ours = vec![0; ONION_LIST_MOST];
+    let mut theirs = ours.clone();
+    let times = best([
+        &mut || {
+            black_box(proved::list(history, &mut ours));
+        },
+        &mut || {
+            black_box(twin::list(history, &mut theirs));
+        },
+    ]);
+    assert!(ours == theirs);
+    line("list of 1,024 revisions", times);
 }

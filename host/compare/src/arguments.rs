@@ -1,6 +1,6 @@
 //! Extreme numbers as arguments, empty slices, arbitrary records to browse, and checksums of many lengths.
 
-use crate::calls::{self, Store, ENDED};
+use crate::calls::{self, Store};
 use crate::exercise;
 use crate::report::Test;
 use forge::{Random, EXTREMES, LIMIT, NEWEST};
@@ -35,6 +35,7 @@ pub fn run_extremes(test: &mut Test, random: &mut Random, number: u64) {
         store.read(test, *at, 0, 1);
         store.read(test, *at, *at, 0);
         store.browse(test, *at);
+        store.record_of(test, *at);
         store.clone().open(test, *at);
         for page in [16, 4_096, *at] {
             store.clone().create(test, *at, page, at % 2 == 0);
@@ -45,7 +46,7 @@ pub fn run_extremes(test: &mut Test, random: &mut Random, number: u64) {
 
 /// Empty slices in every place.
 pub fn run_empty(test: &mut Test, random: &mut Random, _: u64) {
-    let mut session = ENDED;
+    let mut session = Session::ENDED;
     if random.one_in(2) {
         session.n = random.below(300);
         session.size = random.below(300);

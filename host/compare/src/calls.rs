@@ -5,17 +5,7 @@ use crate::report::{Call, Test};
 use compare::proved;
 use forge::{Plan, Random, LIMIT};
 use std::ops::Range;
-use twin::{Answer, Browsed, Checked, Found, Session, Step};
-
-/// The ended session, all zeros.
-pub const ENDED: Session = Session {
-    end: 0,
-    count: 0,
-    parent: 0,
-    size: 0,
-    n: 0,
-    pages: [0; 256],
-};
+use twin::{Answer, Browsed, Checked, Found, Record, Session, Setting, Step};
 
 /// Bytes kept around lent ones, to see that nothing is stored there.
 const AROUND: usize = 32;
@@ -131,7 +121,13 @@ impl Store {
         );
         self.answer(test, Call::Open, &call, &ours, &theirs);
         if theirs.number != 0 {
-            self.same_session(test, &call, &theirs.session, &ENDED, "the ended session");
+            self.same_session(
+                test,
+                &call,
+                &theirs.session,
+                &Session::ENDED,
+                "the ended session",
+            );
         }
         self.kept(test, &call, theirs.number);
         theirs
@@ -206,7 +202,7 @@ impl Store {
             self.same_lent(test, &call, "time, name or comment", lent, word);
         }
         let (want, which) = match theirs.number {
-            0 => (&ENDED, "the ended session"),
+            0 => (&Session::ENDED, "the ended session"),
             _ => (&session, "the given one"),
         };
         self.same_session(test, &call, &theirs.session, want, which);
@@ -221,7 +217,7 @@ impl Store {
         let theirs = twin::release(session, self.twin_history.lend_mut());
         self.answer(test, Call::Release, &call, &ours, &theirs);
         let (want, which) = match theirs.number {
-            0 => (&ENDED, "the ended session"),
+            0 => (&Session::ENDED, "the ended session"),
             _ => (&session, "the given one"),
         };
         self.same_session(test, &call, &theirs.session, want, which);
@@ -318,6 +314,51 @@ impl Store {
         theirs
     }
 
+    pub fn setting_of(&self, test: &mut Test) -> Setting {
+        let call = || "setting".to_string();
+        test.begin(&call);
+        let ours = proved::setting_of(self.proved_history.lend());
+        let theirs = twin::setting_of(self.twin_history.lend());
+        self.number(test, Call::SettingOf, &call, ours.number, theirs.number);
+        self.same_parts(test, &call, &ours, &theirs);
+        theirs
+    }
+
+    pub fn record_of(&self, test: &mut Test, revision: u64) -> Record {
+        let call = || format!("record(revision {revision})");
+        test.begin(&call);
+        let ours = proved::record_of(self.proved_history.lend(), revision);
+        let theirs = twin::record_of(self.twin_history.lend(), revision);
+        self.number(test, Call::RecordOf, &call, ours.number, theirs.number);
+        self.same_parts(test, &call, &ours, &theirs);
+        theirs
+    }
+
+    /// Into no room at all, into a buffer that lacks a byte, one that just holds the text, and a longer one. Gives the
+    /// number that the text tells.
+    pub fn list(&self, test: &mut Test) -> u64 {
+        let mut text = vec![0; twin::list(self.twin_history.lend(), &mut []) as usize];
+        twin::list(self.twin_history.lend(), &mut text);
+        let number = told(&text);
+        for room in [0, text.len() - 1, text.len(), text.len() + AROUND] {
+            let call = || format!("list(into {room} bytes)");
+            test.begin(&call);
+            let mut out = pattern(room, 0);
+            let mut lent = out.clone();
+            let ours = proved::list(self.proved_history.lend(), lent.lend_mut());
+            let theirs = twin::list(self.twin_history.lend(), out.lend_mut());
+            self.same_parts(test, &call, &ours, &theirs);
+            self.same_lent(test, &call, "buffer listed into", &lent, &out);
+            if room < text.len() && out.bytes != pattern(room, 0).bytes {
+                let text = "both sides change a buffer that is too short".to_string();
+                self.differs(test, &call, text);
+            }
+            self.same_buffers(test, &call);
+            test.count(Call::List, number);
+        }
+        number
+    }
+
     pub fn browse(&self, test: &mut Test, revision: u64) -> Browsed {
         let call = || format!("browse(revision {revision})");
         test.begin(&call);
@@ -342,7 +383,7 @@ impl Store {
         self.compared.start.min(length)..self.compared.end.min(length)
     }
 
-    /// Compares numbers, and then the buffers that both sides were lent.
+    /// Compares and counts numbers, and then compares the buffers.
     fn number(
         &self,
         test: &mut Test,
@@ -356,6 +397,11 @@ impl Store {
             self.differs(test, call, text);
         }
         test.count(which, theirs);
+        self.same_buffers(test, call);
+    }
+
+    /// Compares what both sides were lent.
+    fn same_buffers(&self, test: &Test, call: &dyn Fn() -> String) {
         let (ours, theirs) = (&self.proved_history, &self.twin_history);
         let same = self.compared != EVERYTHING
             && ours.lend()[..40] == theirs.lend()[..40]
@@ -546,6 +592,15 @@ pub fn checksum(test: &mut Test, bytes: &[u8]) {
         );
     }
     test.checksums += 1;
+}
+
+/// The number that the text of a list tells: 0 unless it is a refusal.
+pub fn told(text: &[u8]) -> u64 {
+    let text = String::from_utf8_lossy(text);
+    match text.strip_prefix("refused ") {
+        Some(number) => number.trim_end().parse().unwrap_or(u64::MAX),
+        None => 0,
+    }
 }
 
 /// A buffer to read into, with bytes in it that no file is likely to have there.

@@ -1,6 +1,6 @@
 //! All calls on a history of any kind, with arguments that mostly fit it.
 
-use crate::calls::{browse_step, Store, ENDED};
+use crate::calls::{browse_step, Store};
 use crate::report::Test;
 use forge::{Plan, Random, NEWEST};
 use twin::Session;
@@ -124,7 +124,7 @@ pub fn fitting_session(store: &Store, random: &mut Random, revision: u64) -> Ses
         count: guess.count,
         parent: revision.min(guess.count),
         size,
-        ..ENDED
+        ..Session::ENDED
     };
     if random.one_in(2) {
         session.size = size.saturating_add(random.below(3 * guess.page));
@@ -145,7 +145,7 @@ pub fn opened_session(plan: &Plan, parent: u64) -> Session {
         count: plan.records.len() as u64,
         parent,
         size: plan.size_of(parent),
-        ..ENDED
+        ..Session::ENDED
     }
 }
 
@@ -227,10 +227,21 @@ pub fn spoil_words(
     }
 }
 
+/// What the history and each of its records say, and the list.
+fn tell_all(test: &mut Test, store: &Store, random: &mut Random, count: u64) {
+    store.setting_of(test);
+    let others = [NEWEST, count.saturating_add(1), random.extreme(count)];
+    for revision in (0..=count).chain(others) {
+        store.record_of(test, revision);
+    }
+    store.list(test);
+}
+
 /// All calls on the history, those that change it on copies.
 pub fn exercise(test: &mut Test, store: &Store, random: &mut Random) {
     store.check(test);
     let count = guess(store.history()).count;
+    tell_all(test, store, random, count);
     for _ in 0..2 {
         let revision = revision(random, count);
         read_all_ways(test, store, random, revision);

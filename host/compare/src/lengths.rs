@@ -1,10 +1,11 @@
 //! Slices longer than numbers of 32 bits can tell.
 
-use crate::calls::ENDED;
+use crate::calls;
 use crate::report::{Call, Test};
 use compare::proved;
 use forge::{Random, TIME};
 use std::alloc::{alloc_zeroed, dealloc, Layout};
+use twin::Session;
 
 /// A little over 2^32 bytes. They start as a created history; the rest are zeros that take no memory until stored to.
 struct Long {
@@ -84,6 +85,12 @@ pub fn run(test: &mut Test, random: &mut Random, _: u64) {
     let theirs = twin::session_read(session, &original, &locked, 0, bytes).number;
     seen.same(Call::SessionRead, ours, theirs);
 
+    seen.want = 0;
+    let ours = listed(proved::list, &history, bytes);
+    let theirs = listed(twin::list, &history, bytes);
+    seen.same(Call::List, ours, theirs);
+    bytes[..100].fill(0);
+
     seen.want = 19;
     let ours = proved::write(session, &original, &mut locked.clone(), 0, bytes).number;
     let theirs = twin::write(session, &original, &mut locked.clone(), 0, bytes).number;
@@ -108,6 +115,19 @@ pub fn run(test: &mut Test, random: &mut Random, _: u64) {
         proved::check(bytes).number,
         twin::check(bytes).number,
     );
+    seen.same(
+        Call::SettingOf,
+        proved::setting_of(bytes).number,
+        twin::setting_of(bytes).number,
+    );
+    seen.same(
+        Call::RecordOf,
+        proved::record_of(bytes, 0).number,
+        twin::record_of(bytes, 0).number,
+    );
+    let ours = listed(proved::list, bytes, &mut [0; 20]);
+    let theirs = listed(twin::list, bytes, &mut [0; 20]);
+    seen.same(Call::List, ours, theirs);
     seen.same(
         Call::Browse,
         proved::browse(bytes, 0).number,
@@ -137,8 +157,12 @@ pub fn run(test: &mut Test, random: &mut Random, _: u64) {
     let ours = proved::commit(session, bytes, TIME, 1, b"a\0", b"\0").number;
     let theirs = twin::commit(session, bytes, TIME, 1, b"a\0", b"\0").number;
     seen.same(Call::Commit, ours, theirs);
-    let ours = proved::release(ENDED, bytes).number;
-    seen.same(Call::Release, ours, twin::release(ENDED, bytes).number);
+    let ours = proved::release(Session::ENDED, bytes).number;
+    seen.same(
+        Call::Release,
+        ours,
+        twin::release(Session::ENDED, bytes).number,
+    );
     let ours = proved::open(&original, bytes, 0).number;
     seen.same(Call::Open, ours, twin::open(&original, bytes, 0).number);
     let ours = proved::create(bytes, 20, 16, true);
@@ -175,6 +199,12 @@ pub fn run(test: &mut Test, random: &mut Random, _: u64) {
         let text = format!("the proved store answers 0x{ours:08X}, the twin 0x{theirs:08X}");
         test.differs("checksum of over 2^32 bytes", &text, "");
     }
+}
+
+/// The number that a list tells.
+fn listed(list: fn(&[u8], &mut [u8]) -> u64, history: &[u8], out: &mut [u8]) -> u64 {
+    let length = list(history, out) as usize;
+    calls::told(&out[..length])
 }
 
 struct Seen<'a> {

@@ -1,3 +1,3 @@
-//! The proved store's C interface, which the comparison and the benchmark share.
+//! The proved store with the twin's types, which the comparison and the benchmark share.
 
 pub mod proved;

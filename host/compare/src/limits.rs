@@ -1,9 +1,10 @@
 //! Each limit of the store reached exactly, and passed by one.
 
-use crate::calls::{Store, ENDED, EVERYTHING};
+use crate::calls::{Store, EVERYTHING};
 use crate::exercise;
 use crate::report::Test;
 use forge::{Entry, Plan, Random, LATER, LIMIT, NEWEST, PAGE_SIZES, TIME};
+use twin::Session;
 
 type Scenario = fn(&mut Test, &mut Random);
 
@@ -228,10 +229,14 @@ fn revisions_in_one_line(test: &mut Test, random: &mut Random) {
     expect("open", store.open(test, NEWEST).number, 18, test);
     expect("open", store.open(test, 1_025).number, 6, test);
     expect("check", store.check(test).number, 0, test);
+    expect("revisions", store.setting_of(test).revisions, 1_024, test);
+    expect("list", store.list(test), 0, test);
     for _ in 0..40 {
         let revision = random.between(1, 1_024);
         store.read(test, revision, 0, 50);
         store.browse(test, revision);
+        let record = store.record_of(test, revision);
+        expect("user", record.user, revision, test);
     }
 }
 
@@ -498,16 +503,29 @@ fn full_buffers(test: &mut Test, random: &mut Random) {
     expect("read", over.read(test, 0, 0, 1).0, 1, test);
     expect("look-up", over.look_up(test, 0, 0).number, 1, test);
     expect("check", over.check(test).number, 1, test);
+    expect("setting", over.setting_of(test).number, 1, test);
+    expect("record", over.record_of(test, 0).number, 1, test);
+    expect("list", over.list(test), 1, test);
     expect("browse", over.browse(test, 0).number, 1, test);
-    expect("release", over.release(test, ENDED).number, 1, test);
-    expect("write", over.write(test, ENDED, 0, b"").number, 1, test);
     expect(
-        "session read",
-        over.session_read(test, ENDED, 0, 0).0,
+        "release",
+        over.release(test, Session::ENDED).number,
         1,
         test,
     );
-    let answer = over.commit(test, ENDED, TIME, 0, b"a\0", b"\0");
+    expect(
+        "write",
+        over.write(test, Session::ENDED, 0, b"").number,
+        1,
+        test,
+    );
+    expect(
+        "session read",
+        over.session_read(test, Session::ENDED, 0, 0).0,
+        1,
+        test,
+    );
+    let answer = over.commit(test, Session::ENDED, TIME, 0, b"a\0", b"\0");
     expect("commit", answer.number, 1, test);
     history.truncate(LIMIT as usize);
     let mut full = Store::new(random, &original, &history);
@@ -517,6 +535,7 @@ fn full_buffers(test: &mut Test, random: &mut Random) {
     full.session_read(test, session, 0, 50);
     full.commit(test, session, TIME, 0, b"a\0", b"\0");
     expect("check", full.check(test).number, 0, test);
+    expect("list", full.list(test), 0, test);
     // Slices that no call can take.
     let long = vec![b'a'; LIMIT as usize + 1];
     let session = full.open(test, NEWEST).session;
@@ -536,6 +555,7 @@ fn full_buffers(test: &mut Test, random: &mut Random) {
     plan.ground = vec![0; LIMIT as usize];
     let mut last = Store::new(random, &original, &plan.build());
     expect("check", last.check(test).number, 0, test);
+    expect("end", last.setting_of(test).end, LIMIT, test);
     let session = last.open(test, 0).session;
     expect("write", last.write(test, session, 0, b"x").number, 15, test);
     let answer = last.commit(test, session, TIME, 0, b"a\0", b"\0");

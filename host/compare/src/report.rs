@@ -15,6 +15,9 @@ pub enum Call {
     SessionRead,
     LookUp,
     Check,
+    SettingOf,
+    RecordOf,
+    List,
     Browse,
     BrowseStep,
 }
@@ -25,8 +28,9 @@ impl Call {
     }
 }
 
-/// Each call, and the numbers that it can answer by the paper's orders. Those of a browsing step are its kinds.
-pub const CALLS: [(&str, &[u64]); 11] = [
+/// Each call, and the numbers that it can answer by the paper's orders. Those of a browsing step are its kinds, and
+/// that of a list stands in its text.
+pub const CALLS: [(&str, &[u64]); 14] = [
     ("create", &[0, 1, 17]),
     ("open", &[0, 1, 2, 3, 4, 5, 6, 11, 12, 18, 7, 8]),
     ("write", &[0, 1, 2, 3, 4, 5, 13, 7, 8, 10, 19, 14, 15, 9]),
@@ -36,6 +40,9 @@ pub const CALLS: [(&str, &[u64]); 11] = [
     ("session read", &[0, 1, 2, 3, 4, 5, 13, 7, 8, 10, 9]),
     ("look-up", &[0, 1, 2, 3, 4, 5, 6, 7, 8, 10, 20, 9]),
     ("check", &[0, 1, 2, 3, 5, 7, 8, 9]),
+    ("setting", &[0, 1, 2, 3, 5]),
+    ("record", &[0, 1, 2, 3, 5, 6, 7, 8]),
+    ("list", &[0, 1, 2, 3, 5, 7, 8]),
     ("browse", &[0, 1, 2, 3, 5, 6, 7, 8]),
     ("browsing step", &[0, 1, 7]),
 ];
@@ -49,7 +56,7 @@ pub struct Test {
     pub trace: bool,
     /// Time was given, so that inputs that take seconds each are run too.
     pub patient: bool,
-    counts: [[u64; 21]; 11],
+    counts: [[u64; 21]; CALLS.len()],
     pub checksums: u64,
     /// How often each rule of the layout was broken alone, by its row and name.
     rules: BTreeMap<(u64, &'static str), u64>,
@@ -63,7 +70,7 @@ impl Test {
             seed: 0,
             trace,
             patient,
-            counts: [[0; 21]; 11],
+            counts: [[0; 21]; CALLS.len()],
             checksums: 0,
             rules: BTreeMap::new(),
         }

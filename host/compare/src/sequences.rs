@@ -1,6 +1,6 @@
 //! Random call sequences from creation on, with refused calls in between, and what was written kept beside them.
 
-use crate::calls::{Store, ENDED};
+use crate::calls::Store;
 use crate::exercise::{self, guess};
 use crate::report::Test;
 use forge::{Random, LIMIT, NEWEST};
@@ -51,8 +51,8 @@ fn live(test: &mut Test, random: &mut Random, store: &mut Store, page: u64) {
         revisions: vec![store.original().to_vec()],
         session: Vec::new(),
     };
-    let mut session = ENDED;
-    let mut past = vec![ENDED];
+    let mut session = Session::ENDED;
+    let mut past = vec![Session::ENDED];
     for _ in 0..random.between(8, 60) {
         let count = model.revisions.len() as u64 - 1;
         match random.below(24) {
@@ -88,7 +88,7 @@ fn live(test: &mut Test, random: &mut Random, store: &mut Store, page: u64) {
             15..=17 => {
                 if exercise::commit(test, store, random, session) == 0 {
                     past.push(session);
-                    session = ENDED;
+                    session = Session::ENDED;
                     model.revisions.push(model.session.clone());
                 }
             }
@@ -96,7 +96,7 @@ fn live(test: &mut Test, random: &mut Random, store: &mut Store, page: u64) {
                 // Its pages stay behind the committed end as scratch.
                 if store.release(test, session).number == 0 {
                     past.push(session);
-                    session = ENDED;
+                    session = Session::ENDED;
                 }
             }
             19 => {
@@ -215,4 +215,7 @@ pub fn run_large(test: &mut Test, random: &mut Random, _: u64) {
     }
     store.read(test, 2, 0, exercise::size_of(&store, 2) as usize);
     store.check(test);
+    store.setting_of(test);
+    store.record_of(test, 2);
+    store.list(test);
 }

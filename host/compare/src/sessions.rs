@@ -1,6 +1,6 @@
 //! Sessions of every kind on locked histories: right ones, ones with one word off, and random words.
 
-use crate::calls::{Store, ENDED};
+use crate::calls::Store;
 use crate::exercise;
 use crate::report::Test;
 use forge::{Plan, Random, LIMIT};
@@ -145,7 +145,7 @@ fn spoil(random: &mut Random, session: &mut Session, plan: &Plan, room: u64) {
             session.pages[slot] =
                 random.pick(&[u32::MAX, 1 << 31, u32::MAX - page as u32 + 1, LIMIT as u32])
         }
-        19 => *session = ENDED,
+        19 => *session = Session::ENDED,
         20 => {
             *session = Session {
                 end: random.number(),

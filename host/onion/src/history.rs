@@ -1,6 +1,9 @@
 //! A history over a buffer of bytes.
 
-use crate::{layout, raw, Entries, Fault, Record, Refusal, Session};
+use onion_sys::{ONION_LIST_MOST, ONION_SOURCE_ORIGINAL};
+
+use crate::record::part;
+use crate::{raw, Entries, Fault, Record, Refusal, Session};
 
 /// A history in a buffer: a `Vec<u8>`, an array, or a borrowed slice.
 ///
@@ -15,6 +18,7 @@ pub struct History<B> {
 
 /// What a history says of itself.
 #[derive(Clone, Copy, Debug, PartialEq, Eq)]
+#[non_exhaustive]
 pub struct Summary {
     /// The page size.
     pub page_size: u64,
@@ -76,21 +80,40 @@ impl<B: AsRef<[u8]>> History<B> {
         self.bytes.as_ref()
     }
 
-    /// What the history says of itself. Refused by 1, 2, 3 and 5.
+    /// What the history says of itself.
     pub fn summary(&self) -> Result<Summary, Refusal> {
-        let bytes = self.bytes();
-        // To browse the original asks for a sound header and whole history, and for no record.
-        Refusal::from_number(raw::browse(bytes, 0).number)?;
-        let size = layout::number8(bytes, layout::WHOLE_SIZE);
-        let flags = bytes[layout::FLAGS];
+        let setting = raw::setting_of(self.bytes());
+        Refusal::from_number(setting.number)?;
         Ok(Summary {
-            page_size: layout::number4(bytes, layout::PAGE_SIZE).into(),
-            original_length: layout::number8(bytes, layout::ORIGINAL_LENGTH),
-            revisions: (size - layout::WHOLE_FRONT) / layout::LOCATION,
-            locked: flags & layout::LOCK != 0,
-            branching: flags & layout::BRANCHING != 0,
-            end: layout::number8(bytes, layout::WHOLE_ADDRESS) + size,
+            page_size: setting.page_size,
+            original_length: setting.original,
+            revisions: setting.revisions,
+            locked: setting.lock,
+            branching: setting.branching,
+            end: setting.end,
         })
+    }
+
+    /// The history as text: a line for itself and one for each revision.
+    ///
+    /// ```
+    /// # fn main() -> Result<(), onion::Refusal> {
+    /// let history = onion::History::create([0; onion::CREATED_LENGTH], 20, 16, true)?;
+    /// assert_eq!(history.list()?, "pages 16 original 20 revisions 0 lock no branch yes\n");
+    /// # Ok(())
+    /// # }
+    /// ```
+    pub fn list(&self) -> Result<String, Refusal> {
+        let mut text = vec![0; ONION_LIST_MOST];
+        let length = raw::list(self.bytes(), &mut text);
+        text.truncate(length as usize);
+        let text = String::from_utf8(text).expect("a list is ASCII");
+        // Where the store refuses, the list is one line that tells the number.
+        let number = text.strip_prefix("refused ").map(str::trim_end);
+        if let Some(number) = number.and_then(|number| number.parse().ok()) {
+            Refusal::from_number(number)?;
+        }
+        Ok(text)
     }
 
     /// Reads a revision from an offset on and fills all of the output.
@@ -114,7 +137,7 @@ impl<B: AsRef<[u8]>> History<B> {
         let found = raw::look_up(original, self.bytes(), revision, address);
         Refusal::from_number(found.number)?;
         let (source, whole) = match found.source {
-            raw::SOURCE_ORIGINAL => (Source::Original, original),
+            ONION_SOURCE_ORIGINAL => (Source::Original, original),
             _ => (Source::History, self.bytes()),
         };
         Ok(Page {
@@ -137,18 +160,14 @@ impl<B: AsRef<[u8]>> History<B> {
 
     /// The record of a revision; the original, revision 0, has none.
     pub fn record(&self, revision: u64) -> Result<Option<Record<'_>>, Refusal> {
-        let bytes = self.record_bytes(revision)?;
-        Ok(Some(bytes)
-            .filter(|bytes| !bytes.is_empty())
-            .map(Record::accepted))
+        Record::of(self.bytes(), revision)
     }
 
     /// How many bytes a revision has.
     pub fn logical_size(&self, revision: u64) -> Result<u64, Refusal> {
-        match self.record(revision)? {
-            Some(record) => Ok(record.logical_size()),
-            None => Ok(self.summary()?.original_length),
-        }
+        let record = raw::record_of(self.bytes(), revision);
+        Refusal::from_number(record.number)?;
+        Ok(record.logical)
     }
 
     /// The records of all revisions, from 1 on.
@@ -161,16 +180,16 @@ impl<B: AsRef<[u8]>> History<B> {
 
     /// The index entries of a revision; the original has none.
     pub fn entries(&self, revision: u64) -> Result<Entries<'_>, Refusal> {
-        self.record_bytes(revision).map(Entries::over)
-    }
-
-    fn record_bytes(&self, revision: u64) -> Result<&[u8], Refusal> {
-        browse(self.bytes(), revision)
+        let browsed = raw::browse(self.bytes(), revision);
+        Refusal::from_number(browsed.number)?;
+        let record = part(self.bytes(), browsed.offset, browsed.length);
+        Ok(Entries::over(record))
     }
 }
 
 impl<B: AsRef<[u8]> + AsMut<[u8]>> History<B> {
-    /// Starts a history in a buffer of at least 60 bytes, for an original of the given length.
+    /// Starts a history in a buffer of at least [`CREATED_LENGTH`](crate::CREATED_LENGTH) bytes, for an original of the
+    /// given length.
     ///
     /// The page size is a power of two from 16 to 4,096. With branching, a session may be opened on any revision.
     pub fn create(
@@ -198,7 +217,7 @@ impl<B: AsRef<[u8]> + AsMut<[u8]>> History<B> {
 
     /// Clears a lock that a session left behind. Where there is none, nothing changes.
     pub fn clear_lock(&mut self) -> Result<(), Refusal> {
-        let answer = raw::release(raw::Session::ended(), self.bytes_mut());
+        let answer = raw::release(raw::ENDED, self.bytes_mut());
         Refusal::from_number(answer.number)
     }
 }
@@ -208,26 +227,14 @@ impl<'a> Iterator for Revisions<'a> {
 
     fn next(&mut self) -> Option<Self::Item> {
         let revision = self.next.take()?;
-        match browse(self.history, revision) {
-            Ok(bytes) => {
+        match Record::of(self.history, revision) {
+            Ok(record) => {
                 self.next = Some(revision + 1);
-                Some(Ok(Record::accepted(bytes)))
+                record.map(Ok)
             }
             // The one behind the newest is refused so; that is the end and no fault.
             Err(Refusal::Revision) => None,
             Err(refusal) => Some(Err(refusal)),
         }
     }
-}
-
-/// A revision's record, or no bytes for the original.
-fn browse(history: &[u8], revision: u64) -> Result<&[u8], Refusal> {
-    let browsed = raw::browse(history, revision);
-    Refusal::from_number(browsed.number)?;
-    Ok(part(history, browsed.offset, browsed.length))
-}
-
-/// A part that the store has found within the bytes.
-fn part(bytes: &[u8], offset: u64, length: u64) -> &[u8] {
-    &bytes[offset as usize..][..length as usize]
 }

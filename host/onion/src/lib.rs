@@ -7,7 +7,8 @@
 //! - [`History::create`] starts a history, [`History::over`] takes one that stands.
 //! - [`History::open`] gives a [`Session`] on a revision. Each of its calls takes the session and gives back the one to
 //!   go on with, so a session cannot be used twice.
-//! - [`History::read`], [`History::look_up`], [`History::check`], [`History::revisions`] and [`History::entries`] read.
+//! - [`History::read`], [`History::look_up`], [`History::check`], [`History::revisions`], [`History::entries`] and
+//!   [`History::list`] read.
 //!
 //! A call that is not accepted gives a [`Refusal`], and no byte has changed.
 //!
@@ -34,7 +35,7 @@
 //!
 //!     for record in history.revisions() {
 //!         let record = record?;
-//!         println!("{} on {} by {}", record.revision(), record.parent(), record.name());
+//!         println!("{} on {} by {}", record.revision, record.parent, record.name);
 //!     }
 //!     Ok(())
 //! }
@@ -49,8 +50,7 @@
 #![warn(missing_docs)]
 
 mod history;
-mod layout;
-mod raw;
+pub mod raw;
 mod record;
 mod refusal;
 mod session;
@@ -61,37 +61,37 @@ pub use refusal::{Fault, Refusal};
 pub use session::{Note, Refused, Session};
 
 /// Asks for the newest revision, which is 0 (the original) where none was committed.
-pub const NEWEST: u64 = u64::MAX;
+pub const NEWEST: u64 = onion_sys::ONION_NEWEST;
 
 /// The original, a logical size and a history have at most so many bytes each.
-pub const SIZE_MOST: usize = 16_777_216;
+pub const SIZE_MOST: usize = onion_sys::ONION_SIZE_MOST;
 
 /// A page size is a power of two, and at least this.
-pub const PAGE_SIZE_LEAST: u64 = 16;
+pub const PAGE_SIZE_LEAST: u64 = onion_sys::ONION_PAGE_SIZE_LEAST;
 
 /// A page size is a power of two, and at most this.
-pub const PAGE_SIZE_MOST: u64 = 4_096;
+pub const PAGE_SIZE_MOST: u64 = onion_sys::ONION_PAGE_SIZE_MOST;
 
 /// A history holds at most so many revisions.
-pub const REVISIONS_MOST: usize = 1_024;
+pub const REVISIONS_MOST: usize = onion_sys::ONION_REVISIONS_MOST;
 
 /// A record has at most so many index entries.
-pub const ENTRIES_MOST: usize = 4_096;
+pub const ENTRIES_MOST: usize = onion_sys::ONION_ENTRIES_MOST;
 
 /// A session touches at most so many pages.
-pub const TOUCHED_MOST: usize = 256;
+pub const TOUCHED_MOST: usize = onion_sys::ONION_TOUCHED_MOST;
 
 /// A name has at most so many bytes, its closing zero included.
-pub const NAME_MOST: usize = 64;
+pub const NAME_MOST: usize = onion_sys::ONION_NAME_MOST;
 
 /// A comment has at most so many bytes, its closing zero included.
-pub const COMMENT_MOST: usize = 256;
+pub const COMMENT_MOST: usize = onion_sys::ONION_COMMENT_MOST;
 
 /// A history begins with a header of so many bytes.
-pub const HEADER_LENGTH: usize = 40;
+pub const HEADER_LENGTH: usize = onion_sys::ONION_HEADER_LENGTH;
 
 /// A history that was just created has so many bytes.
-pub const CREATED_LENGTH: usize = 60;
+pub const CREATED_LENGTH: usize = onion_sys::ONION_CREATED_LENGTH;
 
 /// The checksum of the store, Fletcher-32, of any number of bytes.
 ///
@@ -100,4 +100,10 @@ pub const CREATED_LENGTH: usize = 60;
 /// ```
 pub fn checksum(bytes: &[u8]) -> u32 {
     raw::checksum(bytes)
+}
+
+/// The version of the library that is linked, major and minor. The major one changes when a program has to.
+pub fn version() -> (u16, u16) {
+    let version = raw::version();
+    ((version >> 16) as u16, version as u16)
 }

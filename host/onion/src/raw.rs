@@ -1,8 +1,10 @@
-//! The store's C functions, as `include/onion.h` has them, each behind a safe function over slices.
+//! The store's functions over slices, with its numbers and structs as they are.
+//!
+//! The rest of this crate is written over these. They are for those who want the numbers themselves; nothing here keeps
+//! a session from being used twice.
 //!
 //! This is the only module with unsafe code. What the header asks of a caller holds for every call below:
 //!
-//! - a slice's pointer is never null, also where the slice is empty;
 //! - a slice's bytes stand for the whole call, and exactly its length is lent;
 //! - a slice that is changed is a `&mut`, so it overlaps no other argument.
 //!
@@ -10,160 +12,21 @@
 
 #![allow(unsafe_code)]
 
-use crate::TOUCHED_MOST;
+use std::ffi::CStr;
 
-/// A session's state. It is not `Clone`: each call takes it and gives another.
-#[repr(C)]
-#[derive(Debug)]
-pub struct Session {
-    pub end: u64,
-    pub count: u64,
-    pub parent: u64,
-    pub size: u64,
-    pub n: u64,
-    pub pages: [u32; TOUCHED_MOST],
-}
+use onion_sys::*;
 
-impl Session {
-    /// The ended session, which fits no history.
-    pub const fn ended() -> Session {
-        Session {
-            end: 0,
-            count: 0,
-            parent: 0,
-            size: 0,
-            n: 0,
-            pages: [0; TOUCHED_MOST],
-        }
-    }
-}
+/// The ended session, which fits no history.
+pub const ENDED: onion_session = onion_session {
+    end: 0,
+    count: 0,
+    parent: 0,
+    size: 0,
+    n: 0,
+    pages: [0; ONION_TOUCHED_MOST],
+};
 
-#[repr(C)]
-pub struct Answer {
-    pub number: u64,
-    pub session: Session,
-}
-
-#[repr(C)]
-pub struct Found {
-    pub number: u64,
-    pub source: u64,
-    pub offset: u64,
-    pub length: u64,
-}
-
-#[repr(C)]
-pub struct Checked {
-    pub number: u64,
-    pub revision: u64,
-    pub entry: u64,
-}
-
-#[repr(C)]
-pub struct Browsed {
-    pub number: u64,
-    pub offset: u64,
-    pub length: u64,
-}
-
-#[repr(C)]
-pub struct Step {
-    pub kind: u64,
-    pub logical: u64,
-    pub physical: u64,
-    pub page_sum: u64,
-    pub entry_sum: u64,
-}
-
-/// `Found::source` for a part of the original; a part of the history has 1.
-pub const SOURCE_ORIGINAL: u64 = 0;
-
-/// `Step::kind` for an entry; the end has 1, a refusal 7.
-pub const STEP_ENTRY: u64 = 0;
-
-extern "C" {
-    fn onion_create(
-        history: *mut u8,
-        history_length: usize,
-        original: u64,
-        page_size: u64,
-        branching: bool,
-    ) -> u64;
-
-    fn onion_open(
-        original: *const u8,
-        original_length: usize,
-        history: *mut u8,
-        history_length: usize,
-        revision: u64,
-    ) -> Answer;
-
-    fn onion_write(
-        session: Session,
-        original: *const u8,
-        original_length: usize,
-        history: *mut u8,
-        history_length: usize,
-        at: u64,
-        data: *const u8,
-        data_length: usize,
-    ) -> Answer;
-
-    fn onion_commit(
-        session: Session,
-        history: *mut u8,
-        history_length: usize,
-        time: *const u8,
-        time_length: usize,
-        user: u32,
-        name: *const u8,
-        name_length: usize,
-        comment: *const u8,
-        comment_length: usize,
-    ) -> Answer;
-
-    fn onion_release(session: Session, history: *mut u8, history_length: usize) -> Answer;
-
-    fn onion_read(
-        original: *const u8,
-        original_length: usize,
-        history: *const u8,
-        history_length: usize,
-        revision: u64,
-        at: u64,
-        output: *mut u8,
-        output_length: usize,
-    ) -> u64;
-
-    fn onion_session_read(
-        session: Session,
-        original: *const u8,
-        original_length: usize,
-        history: *const u8,
-        history_length: usize,
-        at: u64,
-        output: *mut u8,
-        output_length: usize,
-    ) -> Answer;
-
-    fn onion_look_up(
-        original: *const u8,
-        original_length: usize,
-        history: *const u8,
-        history_length: usize,
-        revision: u64,
-        address: u64,
-    ) -> Found;
-
-    fn onion_check(history: *const u8, history_length: usize) -> Checked;
-
-    fn onion_browse(history: *const u8, history_length: usize, revision: u64) -> Browsed;
-
-    fn onion_browse_step(record: *const u8, record_length: usize, place: u64) -> Step;
-
-    fn onion_checksum(bytes: *const u8, length: usize) -> u32;
-}
-
+/// Starts a history.
 pub fn create(history: &mut [u8], original: u64, page_size: u64, branching: bool) -> u64 {
     // SAFETY: as the module says; `history` is the only slice.
     unsafe {
@@ -177,7 +40,8 @@ pub fn create(history: &mut [u8], original: u64, page_size: u64, branching: bool
     }
 }
 
-pub fn open(original: &[u8], history: &mut [u8], revision: u64) -> Answer {
+/// Opens a revision for writing.
+pub fn open(original: &[u8], history: &mut [u8], revision: u64) -> onion_answer {
     // SAFETY: as the module says; `history` is changed and exclusively borrowed.
     unsafe {
         onion_open(
@@ -190,13 +54,14 @@ pub fn open(original: &[u8], history: &mut [u8], revision: u64) -> Answer {
     }
 }
 
+/// Writes data through a session.
 pub fn write(
-    session: Session,
+    session: onion_session,
     original: &[u8],
     history: &mut [u8],
     at: u64,
     data: &[u8],
-) -> Answer {
+) -> onion_answer {
     // SAFETY: as the module says; `history` is changed and exclusively borrowed.
     unsafe {
         onion_write(
@@ -212,14 +77,15 @@ pub fn write(
     }
 }
 
+/// Commits a session as the next revision. The texts end in the zero that closes them.
 pub fn commit(
-    session: Session,
+    session: onion_session,
     history: &mut [u8],
     time: &[u8],
     user: u32,
     name: &[u8],
     comment: &[u8],
-) -> Answer {
+) -> onion_answer {
     // SAFETY: as the module says; `history` is changed and exclusively borrowed.
     unsafe {
         onion_commit(
@@ -237,11 +103,13 @@ pub fn commit(
     }
 }
 
-pub fn release(session: Session, history: &mut [u8]) -> Answer {
+/// Clears the lock and ends the session.
+pub fn release(session: onion_session, history: &mut [u8]) -> onion_answer {
     // SAFETY: as the module says; `history` is the only slice.
     unsafe { onion_release(session, history.as_mut_ptr(), history.len()) }
 }
 
+/// Fills the output from a revision.
 pub fn read(original: &[u8], history: &[u8], revision: u64, at: u64, output: &mut [u8]) -> u64 {
     // SAFETY: as the module says; `output` is changed and exclusively borrowed.
     unsafe {
@@ -258,13 +126,14 @@ pub fn read(original: &[u8], history: &[u8], revision: u64, at: u64, output: &mu
     }
 }
 
+/// Fills the output through a session.
 pub fn session_read(
-    session: Session,
+    session: onion_session,
     original: &[u8],
     history: &[u8],
     at: u64,
     output: &mut [u8],
-) -> Answer {
+) -> onion_answer {
     // SAFETY: as the module says; `output` is changed and exclusively borrowed.
     unsafe {
         onion_session_read(
@@ -280,7 +149,8 @@ pub fn session_read(
     }
 }
 
-pub fn look_up(original: &[u8], history: &[u8], revision: u64, address: u64) -> Found {
+/// Says where a page of a revision lies.
+pub fn look_up(original: &[u8], history: &[u8], revision: u64, address: u64) -> onion_found {
     // SAFETY: as the module says; nothing is changed.
     unsafe {
         onion_look_up(
@@ -294,22 +164,65 @@ pub fn look_up(original: &[u8], history: &[u8], revision: u64, address: u64) -> 
     }
 }
 
-pub fn check(history: &[u8]) -> Checked {
+/// Checks the whole history.
+pub fn check(history: &[u8]) -> onion_checked {
     // SAFETY: as the module says; nothing is changed.
     unsafe { onion_check(history.as_ptr(), history.len()) }
 }
 
-pub fn browse(history: &[u8], revision: u64) -> Browsed {
+/// Says what a history says of itself.
+pub fn setting_of(history: &[u8]) -> onion_setting {
+    // SAFETY: as the module says; nothing is changed.
+    unsafe { onion_setting_of(history.as_ptr(), history.len()) }
+}
+
+/// Says what the record of a revision says.
+pub fn record_of(history: &[u8], revision: u64) -> onion_record {
+    // SAFETY: as the module says; nothing is changed.
+    unsafe { onion_record_of(history.as_ptr(), history.len(), revision) }
+}
+
+/// Lists the history as text at the start of the output, where there is room for all of it.
+pub fn list(history: &[u8], output: &mut [u8]) -> u64 {
+    // SAFETY: as the module says; `output` is changed and exclusively borrowed.
+    unsafe {
+        onion_list(
+            history.as_ptr(),
+            history.len(),
+            output.as_mut_ptr(),
+            output.len(),
+        )
+    }
+}
+
+/// Says where the record of a revision lies.
+pub fn browse(history: &[u8], revision: u64) -> onion_browsed {
     // SAFETY: as the module says; nothing is changed.
     unsafe { onion_browse(history.as_ptr(), history.len(), revision) }
 }
 
-pub fn browse_step(record: &[u8], place: u64) -> Step {
+/// Gives the index entry at a place of a record.
+pub fn browse_step(record: &[u8], place: u64) -> onion_step {
     // SAFETY: as the module says; nothing is changed.
     unsafe { onion_browse_step(record.as_ptr(), record.len(), place) }
 }
 
+/// The checksum of any bytes.
 pub fn checksum(bytes: &[u8]) -> u32 {
     // SAFETY: as the module says; nothing is changed.
     unsafe { onion_checksum(bytes.as_ptr(), bytes.len()) }
+}
+
+/// The sentence of a number.
+pub fn sentence(number: u64) -> &'static str {
+    // SAFETY: the function takes any number and gives a text of the library's own, closed by a zero, which stands as
+    // long as the program.
+    let sentence = unsafe { CStr::from_ptr(onion_sentence(number)) };
+    sentence.to_str().expect("the sentences are ASCII")
+}
+
+/// The version of the library that is linked.
+pub fn version() -> u32 {
+    // SAFETY: the function takes nothing and tells a number.
+    unsafe { onion_version() }
 }

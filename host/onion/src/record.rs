@@ -2,13 +2,30 @@
 
 use std::str;
 
-use crate::{layout, raw};
+use onion_sys::{onion_part, ONION_STEP_ENTRY};
 
-/// The record of a revision, as it lies in the history.
+use crate::{raw, Refusal};
+
+/// What the record of a revision says.
 #[derive(Clone, Copy, Debug, PartialEq, Eq)]
+#[non_exhaustive]
 pub struct Record<'a> {
-    // Accepted by the store, so every field is as the layout says.
-    bytes: &'a [u8],
+    /// The revision's number.
+    pub revision: u64,
+    /// The revision that its session was opened on.
+    pub parent: u64,
+    /// When it was committed: `YYYYMMDDThhmmssZ`.
+    pub time: &'a str,
+    /// How many bytes the revision has.
+    pub logical_size: u64,
+    /// The number of the user.
+    pub user: u32,
+    /// How many entries its index has.
+    pub entry_count: u64,
+    /// The user's name, without its closing zero.
+    pub name: &'a str,
+    /// The comment, without its closing zero.
+    pub comment: &'a str,
 }
 
 /// One entry of a revision's index: a page that is stored in the history.
@@ -32,72 +49,28 @@ pub struct Entries<'a> {
 }
 
 impl<'a> Record<'a> {
-    /// The bytes of a record that the store has accepted.
-    pub(crate) fn accepted(bytes: &'a [u8]) -> Record<'a> {
-        Record { bytes }
-    }
-
-    /// The record's bytes in the history.
-    pub fn bytes(&self) -> &'a [u8] {
-        self.bytes
-    }
-
-    /// The revision's number.
-    pub fn revision(&self) -> u64 {
-        layout::number8(self.bytes, layout::REVISION)
-    }
-
-    /// The revision that its session was opened on.
-    pub fn parent(&self) -> u64 {
-        layout::number8(self.bytes, layout::PARENT)
-    }
-
-    /// When it was committed: `YYYYMMDDThhmmssZ`.
-    pub fn time(&self) -> &'a str {
-        self.text(layout::TIME, 16)
-    }
-
-    /// How many bytes the revision has.
-    pub fn logical_size(&self) -> u64 {
-        layout::number8(self.bytes, layout::LOGICAL_SIZE)
-    }
-
-    /// The number of the user.
-    pub fn user(&self) -> u32 {
-        layout::number4(self.bytes, layout::USER)
-    }
-
-    /// How many entries its index has.
-    pub fn entry_count(&self) -> u64 {
-        layout::number8(self.bytes, layout::ENTRY_COUNT)
-    }
-
-    /// The user's name, without its closing zero.
-    pub fn name(&self) -> &'a str {
-        self.text(self.name_at(), self.name_size() - 1)
-    }
-
-    /// The comment, without its closing zero.
-    pub fn comment(&self) -> &'a str {
-        let size = layout::number4(self.bytes, layout::COMMENT_SIZE) as usize;
-        self.text(self.name_at() + self.name_size(), size - 1)
-    }
-
-    /// Its index entries.
-    pub fn entries(&self) -> Entries<'a> {
-        Entries::over(self.bytes)
-    }
-
-    fn name_at(&self) -> usize {
-        layout::RECORD_FRONT + layout::ENTRY * self.entry_count() as usize
-    }
-
-    fn name_size(&self) -> usize {
-        layout::number4(self.bytes, layout::NAME_SIZE) as usize
-    }
-
-    fn text(&self, at: usize, length: usize) -> &'a str {
-        str::from_utf8(&self.bytes[at..at + length]).expect("an accepted record's texts are ASCII")
+    /// The record of a revision of a history; the original has none.
+    pub(crate) fn of(history: &'a [u8], revision: u64) -> Result<Option<Record<'a>>, Refusal> {
+        let said = raw::record_of(history, revision);
+        Refusal::from_number(said.number)?;
+        if said.revision == 0 {
+            return Ok(None);
+        }
+        let text = |place: onion_part| {
+            let bytes = part(history, place.offset, place.length);
+            let bytes = bytes.strip_suffix(&[0]).unwrap_or(bytes);
+            str::from_utf8(bytes).expect("an accepted record's texts are ASCII")
+        };
+        Ok(Some(Record {
+            revision: said.revision,
+            parent: said.parent,
+            time: text(said.time),
+            logical_size: said.logical,
+            user: said.user as u32,
+            entry_count: said.entries,
+            name: text(said.name),
+            comment: text(said.comment),
+        }))
     }
 }
 
@@ -113,7 +86,7 @@ impl Iterator for Entries<'_> {
 
     fn next(&mut self) -> Option<Entry> {
         let step = raw::browse_step(self.record, self.place);
-        if step.kind != raw::STEP_ENTRY {
+        if step.kind != ONION_STEP_ENTRY {
             return None;
         }
         self.place += 1;
@@ -124,4 +97,9 @@ impl Iterator for Entries<'_> {
             entry_checksum: step.entry_sum as u32,
         })
     }
+}
+
+/// A part that the store has found within the bytes.
+pub(crate) fn part(bytes: &[u8], offset: u64, length: u64) -> &[u8] {
+    &bytes[offset as usize..][..length as usize]
 }

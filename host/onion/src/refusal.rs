@@ -3,54 +3,60 @@
 use std::error::Error;
 use std::fmt;
 
+use onion_sys::*;
+
+use crate::raw;
+
 /// A row of the paper's table of refusals. A refused call has changed no byte.
 #[derive(Clone, Copy, Debug, PartialEq, Eq, Hash, PartialOrd, Ord)]
-#[repr(u8)]
+#[non_exhaustive]
 pub enum Refusal {
     /// The history is too short or too long.
-    HistoryLength = 1,
+    HistoryLength,
     /// The header is not one.
-    Header = 2,
+    Header,
     /// The header is damaged.
-    HeaderChecksum = 3,
+    HeaderChecksum,
     /// The original is not the history's: its length differs.
-    OriginalLength = 4,
+    OriginalLength,
     /// The whole history, which says where the records lie, is damaged or missing.
-    WholeHistory = 5,
+    WholeHistory,
     /// There is no such revision.
-    Revision = 6,
+    Revision,
     /// A record is against the layout.
-    Record = 7,
+    Record,
     /// A record or an entry of it is damaged.
-    RecordChecksum = 8,
+    RecordChecksum,
     /// A page is damaged.
-    PageChecksum = 9,
+    PageChecksum,
     /// The range or the address lies outside.
-    Outside = 10,
+    Outside,
     /// A session is open, or its lock was left behind.
-    Locked = 11,
+    Locked,
     /// Only the newest revision can be opened for writing in this history.
-    NotNewest = 12,
+    NotNewest,
     /// The session has ended, or belongs to another history.
-    Session = 13,
+    Session,
     /// Too many pages for one session or one record.
-    TooManyPages = 14,
+    TooManyPages,
     /// The buffer is too short for what is to be stored.
-    NoRoom = 15,
+    NoRoom,
     /// Time, name or comment cannot be stored.
-    Text = 16,
+    Text,
     /// A history cannot be created so.
-    Creation = 17,
+    Creation,
     /// The history is full of revisions.
-    TooManyRevisions = 18,
+    TooManyRevisions,
     /// The revision would become too long.
-    PastLimit = 19,
+    PastLimit,
     /// The page lies in no one place: neither stored nor wholly in the original.
-    NotStored = 20,
+    NotStored,
+    /// A number that this version of the crate has no name for.
+    Unknown(u64),
 }
 
 impl Refusal {
-    /// Every refusal, in the order of the numbers, which count from 1.
+    /// Every refusal that has a name, in the order of the numbers, which count from 1.
     pub const ALL: [Refusal; 20] = [
         Refusal::HistoryLength,
         Refusal::Header,
@@ -76,63 +82,45 @@ impl Refusal {
 
     /// The number of the paper's row.
     pub const fn number(self) -> u64 {
-        self as u64
+        match self {
+            Refusal::HistoryLength => ONION_REFUSED_HISTORY_LENGTH,
+            Refusal::Header => ONION_REFUSED_HEADER,
+            Refusal::HeaderChecksum => ONION_REFUSED_HEADER_CHECKSUM,
+            Refusal::OriginalLength => ONION_REFUSED_ORIGINAL_LENGTH,
+            Refusal::WholeHistory => ONION_REFUSED_WHOLE_HISTORY,
+            Refusal::Revision => ONION_REFUSED_REVISION,
+            Refusal::Record => ONION_REFUSED_RECORD,
+            Refusal::RecordChecksum => ONION_REFUSED_RECORD_CHECKSUM,
+            Refusal::PageChecksum => ONION_REFUSED_PAGE_CHECKSUM,
+            Refusal::Outside => ONION_REFUSED_OUTSIDE,
+            Refusal::Locked => ONION_REFUSED_LOCKED,
+            Refusal::NotNewest => ONION_REFUSED_NOT_NEWEST,
+            Refusal::Session => ONION_REFUSED_SESSION,
+            Refusal::TooManyPages => ONION_REFUSED_TOO_MANY_PAGES,
+            Refusal::NoRoom => ONION_REFUSED_NO_ROOM,
+            Refusal::Text => ONION_REFUSED_TEXT,
+            Refusal::Creation => ONION_REFUSED_CREATION,
+            Refusal::TooManyRevisions => ONION_REFUSED_TOO_MANY_REVISIONS,
+            Refusal::PastLimit => ONION_REFUSED_PAST_LIMIT,
+            Refusal::NotStored => ONION_REFUSED_NOT_STORED,
+            Refusal::Unknown(number) => number,
+        }
     }
 
-    /// The paper's sentence for the row.
-    pub const fn sentence(self) -> &'static str {
-        match self {
-            Refusal::HistoryLength => "history shorter than 40 bytes (creation: 60) or over the limit",
-            Refusal::Header => {
-                "header signature, version, flags or page size wrong, or its original's length over the limit"
-            }
-            Refusal::HeaderChecksum => "header checksum wrong",
-            Refusal::OriginalLength => "the lent original's length is not the header's",
-            Refusal::WholeHistory => {
-                "whole history: address below 40, past the buffer, size not 20 + 20n, n over 1,024, or a signature, \
-                 version, reserved byte or checksum in it wrong, location checksums included"
-            }
-            Refusal::Revision => "revision above n and not 2^64 - 1",
-            Refusal::Record => {
-                "record: address below 60, size not its layout's, reaches past the whole history's start, or any field \
-                 against the layout; revision not k; parent not below k; page size not the header's; a physical \
-                 address below 60 or a page reaching past the record's start"
-            }
-            Refusal::RecordChecksum => "record or entry checksum wrong",
-            Refusal::PageChecksum => "page checksum wrong",
-            Refusal::Outside => {
-                "read or look-up outside the logical size; look-up address not a multiple of p; write starting past \
-                 the size"
-            }
-            Refusal::Locked => "lock set",
-            Refusal::NotNewest => "branching off and the revision isn't the newest",
-            Refusal::Session => {
-                "session ended or not of this history: lock clear; end or count not the history's; count over 1,023; \
-                 parent over the count, or under it with branching off; its pages over 256, repeated, not multiples \
-                 of p or not below its size; size over the limit; its pages past the buffer; size below its parent's \
-                 logical size (for parent 0 the header's original length)"
-            }
-            Refusal::TooManyPages => "over 256 touched pages or 4,096 merged entries would result",
-            Refusal::NoRoom => "the bytes to be stored do not fit in the buffer",
-            Refusal::Text => "time, name or comment against the layout",
-            Refusal::Creation => "creation: page size wrong or original over the limit",
-            Refusal::TooManyRevisions => "1,024 revisions stand",
-            Refusal::PastLimit => "write would end past 16,777,216",
-            Refusal::NotStored => {
-                "look-up of a page not in the index that doesn't lie, for its length, within the original"
-            }
-        }
+    /// The paper's sentence for the row, as the library has it.
+    pub fn sentence(self) -> &'static str {
+        raw::sentence(self.number())
     }
 
     /// What the store's number says: 0 is acceptance.
     pub(crate) fn from_number(number: u64) -> Result<(), Refusal> {
-        if number == 0 {
+        if number == ONION_ACCEPTED {
             return Ok(());
         }
-        let row = Refusal::ALL
+        let named = Refusal::ALL
             .into_iter()
             .find(|refusal| refusal.number() == number);
-        Err(row.expect("the store answers 0 to 20"))
+        Err(named.unwrap_or(Refusal::Unknown(number)))
     }
 }
 
@@ -184,12 +172,21 @@ mod tests {
     }
 
     #[test]
+    fn a_number_without_a_name_is_no_reason_to_stop() {
+        for number in [Refusal::ALL.len() as u64 + 1, u64::MAX] {
+            let refusal = Refusal::from_number(number).unwrap_err();
+            assert_eq!(refusal, Refusal::Unknown(number));
+            assert_eq!(refusal.number(), number);
+            assert_eq!(
+                refusal.to_string(),
+                format!("refused {number}: unknown number")
+            );
+        }
+    }
+
+    #[test]
     fn a_refusal_shows_its_number_and_sentence() {
         assert_eq!(Refusal::Locked.to_string(), "refused 11: lock set");
-        for refusal in Refusal::ALL {
-            // A sentence that goes over lines of the source has single spaces.
-            assert!(!refusal.sentence().contains("  "), "{refusal}");
-        }
     }
 
     #[test]

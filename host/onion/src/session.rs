@@ -3,6 +3,8 @@
 use std::error::Error;
 use std::fmt;
 
+use onion_sys::{onion_answer, onion_session};
+
 use crate::{raw, History, Refusal};
 
 /// An open session on a history, got by [`History::open`].
@@ -25,7 +27,7 @@ use crate::{raw, History, Refusal};
 #[derive(Debug)]
 pub struct Session {
     // About a kilobyte, so it is moved around behind a pointer.
-    state: Box<raw::Session>,
+    state: Box<onion_session>,
 }
 
 /// A session call that was refused: why, and the session, unchanged.
@@ -51,7 +53,7 @@ pub struct Note<'a> {
 }
 
 impl Session {
-    pub(crate) fn from_raw(state: raw::Session) -> Session {
+    pub(crate) fn from_raw(state: onion_session) -> Session {
         Session {
             state: Box::new(state),
         }
@@ -133,7 +135,7 @@ impl Session {
 }
 
 /// The session after a call, or the refusal with it.
-fn go_on(answer: raw::Answer) -> Result<Session, Refused> {
+fn go_on(answer: onion_answer) -> Result<Session, Refused> {
     let session = Session::from_raw(answer.session);
     match Refusal::from_number(answer.number) {
         Ok(()) => Ok(session),

@@ -1,8 +1,8 @@
 //! The worked examples of the paper, and what this crate adds to the store.
 
 use onion::{
-    checksum, Fault, History, Note, Record, Refusal, Session, Source, CREATED_LENGTH, NEWEST,
-    SIZE_MOST,
+    checksum, version, Fault, History, Note, Record, Refusal, Session, Source, CREATED_LENGTH,
+    NEWEST, SIZE_MOST,
 };
 
 const ORIGINAL: [u8; 20] = *b"abcdefghijklmnopqrst";
@@ -38,9 +38,9 @@ fn read_all(history: &History<Vec<u8>>, revision: u64) -> Vec<u8> {
     bytes
 }
 
-fn physical_addresses(record: Record<'_>) -> Vec<(u64, u64)> {
-    record
-        .entries()
+fn physical_addresses(history: &History<Vec<u8>>, revision: u64) -> Vec<(u64, u64)> {
+    let entries = history.entries(revision).unwrap();
+    entries
         .map(|entry| (entry.logical, entry.physical))
         .collect()
 }
@@ -103,9 +103,7 @@ fn created_and_first_session() {
     let summary = history.summary().unwrap();
     assert_eq!((summary.revisions, summary.end), (1, 261));
     assert!(!summary.locked);
-    let record = history.record(1).unwrap().unwrap();
-    assert_eq!(record.bytes().len(), 129);
-    assert_eq!(record.bytes(), &history.bytes()[92..221]);
+    assert_eq!(physical_addresses(&history, 1), [(0, 60), (16, 76)]);
 }
 
 #[test]
@@ -114,18 +112,20 @@ fn second_session() {
     let summary = history.summary().unwrap();
     assert_eq!((summary.revisions, summary.end), (2, 466));
     let records: Vec<Record> = history.revisions().map(Result::unwrap).collect();
-    assert_eq!(physical_addresses(records[0]), [(0, 60), (16, 76)]);
-    assert_eq!(physical_addresses(records[1]), [(0, 60), (16, 261)]);
-    assert_eq!(records[1].bytes(), &history.bytes()[277..406]);
-    assert_eq!(records[1].revision(), 2);
-    assert_eq!(records[1].parent(), 1);
-    assert_eq!(records[1].time(), "20240305T091500Z");
-    assert_eq!(records[1].logical_size(), 21);
-    assert_eq!(records[1].entry_count(), 2);
-    assert_eq!(records[1].user(), 7);
-    assert_eq!(records[1].name(), "ana");
-    assert_eq!(records[1].comment(), "");
-    let entry = records[1].entries().last().unwrap();
+    assert_eq!(records.len(), 2);
+    for (record, revision, parent, time, size) in [
+        (records[0], 1, 0, "20240305T070000Z", 20),
+        (records[1], 2, 1, "20240305T091500Z", 21),
+    ] {
+        assert_eq!((record.revision, record.parent), (revision, parent));
+        assert_eq!((record.time, record.logical_size), (time, size));
+        assert_eq!((record.user, record.entry_count), (7, 2));
+        assert_eq!((record.name, record.comment), ("ana", ""));
+    }
+    assert_eq!(history.record(NEWEST), Ok(Some(records[1])));
+    assert_eq!(physical_addresses(&history, 1), [(0, 60), (16, 76)]);
+    assert_eq!(physical_addresses(&history, 2), [(0, 60), (16, 261)]);
+    let entry = history.entries(2).unwrap().last().unwrap();
     assert_eq!(entry.page_checksum, checksum(&history.bytes()[261..277]));
 
     assert_eq!(read_all(&history, 0), ORIGINAL);
@@ -213,6 +213,24 @@ fn texts_that_cannot_be_stored_keep_the_session() {
 }
 
 #[test]
+fn the_list() {
+    let mut history = two_revisions(false);
+    let lines = "pages 16 original 20 revisions 2 lock no branch no\n\
+                 1 0 20240305T070000Z 20 2 ana\n\
+                 2 1 20240305T091500Z 21 2 ana\n";
+    assert_eq!(history.list().unwrap(), lines);
+    drop(history.open(&ORIGINAL, NEWEST).unwrap());
+    assert_eq!(
+        history.list().unwrap(),
+        lines.replace("lock no", "lock yes")
+    );
+    history.bytes_mut()[300] ^= 1;
+    assert_eq!(history.list(), Err(Refusal::Record));
+    let empty = History::over([]);
+    assert_eq!(empty.list(), Err(Refusal::HistoryLength));
+}
+
+#[test]
 fn faults_are_named() {
     let mut history = two_revisions(false);
     history.bytes_mut()[265] ^= 1;
@@ -249,4 +267,11 @@ fn a_history_over_a_borrowed_slice() {
     assert!(lent.entries(0).unwrap().next().is_none());
     assert!(lent.record(0).unwrap().is_none());
     assert_eq!(lent.record(1), Err(Refusal::Revision));
+}
+
+#[test]
+fn the_library_has_the_version_that_is_declared() {
+    let (major, minor) = version();
+    assert_eq!(u32::from(major), onion_sys::ONION_VERSION_MAJOR);
+    assert_eq!(u32::from(minor), onion_sys::ONION_VERSION_MINOR);
 }

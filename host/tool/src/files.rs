@@ -2,9 +2,9 @@
 //!
 //! A history file holds exactly the committed bytes. A command that changes it holds a lock on the file against other
 //! programs (the system's, not the header's), works on a copy in memory, and stores the outcome only when the whole
-//! work was accepted: first all that stands behind the header, which no reader looks at yet, and last the 40 bytes of
-//! the header. After each of the two it waits until the disk has them. So a refusal changes nothing on disk, and a
-//! program that is killed, or a machine that stops, leaves either the old revisions or the old and the new one.
+//! work was accepted: first all that stands behind the header, which no reader looks at yet, and last the header. After
+//! each of the two it waits until the disk has them. So a refusal changes nothing on disk, and a program that is killed,
+//! or a machine that stops, leaves either the old revisions or the old and the new one.
 //!
 //! The lock bit in the header is therefore set in memory only. Where it is found on disk, another program has set it.
 

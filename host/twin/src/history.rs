@@ -4,7 +4,6 @@ use crate::layout::{self, Entry, Header, CREATED, ENTRY, HEADER, INDEX, LIMIT, R
 use crate::rows::{self, Row};
 
 /// The whole check's answer; a place that its fault does not name is 0.
-#[repr(C)]
 #[derive(Clone, Copy, PartialEq, Eq, Debug)]
 pub struct Checked {
     pub number: u64,
@@ -13,7 +12,6 @@ pub struct Checked {
 }
 
 /// Where a revision's record lies: zeros for revision 0 and where refused.
-#[repr(C)]
 #[derive(Clone, Copy, PartialEq, Eq, Debug)]
 pub struct Browsed {
     pub number: u64,
@@ -23,7 +21,6 @@ pub struct Browsed {
 
 /// One step of browsing. Kind 0 is an entry, 1 the end and 7 the refusal; the
 /// fields are zero unless it is an entry.
-#[repr(C)]
 #[derive(Clone, Copy, PartialEq, Eq, Debug)]
 pub struct Step {
     pub kind: u64,

@@ -28,6 +28,9 @@ pub const LOCATIONS: usize = 16;
 pub const LOCATION: usize = 20;
 /// A record without entries, name and comment.
 pub const RECORD: usize = 76;
+/// Where the time starts in a record, and its bytes.
+pub const TIME: usize = 24;
+pub const TIME_SIZE: usize = 16;
 /// Where the entries start in a record.
 pub const INDEX: usize = 72;
 pub const ENTRY: usize = 24;
@@ -100,7 +103,7 @@ pub fn is_page_size(page: u64) -> bool {
 
 /// `YYYYMMDDThhmmssZ`.
 pub fn is_time(time: &[u8]) -> bool {
-    let Ok(time) = <&[u8; 16]>::try_from(time) else {
+    let Ok(time) = <&[u8; TIME_SIZE]>::try_from(time) else {
         return false;
     };
     let digits = |part: &[u8]| part.iter().all(u8::is_ascii_digit);
@@ -299,7 +302,7 @@ impl<'a> Head<'a> {
         begun(bytes, RECORD_SIGNATURE).then(|| Head {
             revision: u64_at(bytes, 8),
             parent: u64_at(bytes, 16),
-            time: &bytes[24..40],
+            time: &bytes[TIME..TIME + TIME_SIZE],
             size: u64_at(bytes, 40),
             page: u32_at(bytes, 48),
             user: u32_at(bytes, 52),

@@ -12,7 +12,8 @@
 //! The modules follow the paper: `checksum` and `layout` are its chapter on the
 //! layout, `rows` its table of refusals, `view` its chapter on reading,
 //! `session` the one on a session, `history` creation, whole check and
-//! browsing, and `listing` the list.
+//! browsing, `telling` what a history and its records say, and `listing` the
+//! list.
 
 #![forbid(unsafe_code)]
 
@@ -22,10 +23,12 @@ mod layout;
 mod listing;
 mod rows;
 mod session;
+mod telling;
 mod view;
 
 pub use checksum::checksum;
 pub use history::{browse, browse_step, check, create, Browsed, Checked, Step};
 pub use listing::{list, list_program};
 pub use session::{commit, open, release, session_read, write, Answer, Session};
+pub use telling::{record_of, setting_of, Part, Record, Setting};
 pub use view::{look_up, read, Found};

@@ -5,7 +5,6 @@ use crate::rows::{self, OwnPage, Row};
 
 /// The page that a look-up found: a part of the original (source 0) or of the
 /// history (source 1). All zeros but the number where it was refused.
-#[repr(C)]
 #[derive(Clone, Copy, PartialEq, Eq, Debug)]
 pub struct Found {
     pub number: u64,

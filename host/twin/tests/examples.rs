@@ -85,7 +85,7 @@ fn two_revisions() {
     assert!(hist[92..].iter().all(|&byte| byte == 0xEE));
 
     let ended = accepted(commit(st, &mut hist, TIME, 1000, b"ana\0", b"\0"));
-    assert_eq!(ended, ENDED);
+    assert_eq!(ended, Session::ENDED);
     assert_eq!(record(&hist, 1), (92, 129));
     assert_eq!(whole(&hist), (221, 40));
     assert_eq!(committed_end(&hist), 261);
@@ -282,7 +282,7 @@ fn scratch_of_a_released_session_is_never_seen() {
     create(&mut hist, 40, 16, false);
     let st = accepted(open(&orig, &mut hist, 0));
     let st = accepted(write(st, &orig, &mut hist, 0, &[0xAA; 48]));
-    assert_eq!(accepted(release(st, &mut hist)), ENDED);
+    assert_eq!(accepted(release(st, &mut hist)), Session::ENDED);
     assert_eq!(hist[5], 0);
     // The next session uses the same room.
     let st = accepted(open(&orig, &mut hist, 0));
@@ -431,7 +431,7 @@ fn a_later_touch_and_unused_slots() {
 fn release_takes_any_session_and_leaves_an_unlocked_history() {
     let (orig, mut hist) = example();
     let before = hist.clone();
-    assert_eq!(accepted(release(ENDED, &mut hist)), ENDED);
+    assert_eq!(accepted(release(Session::ENDED, &mut hist)), Session::ENDED);
     assert_eq!(hist, before);
     let st = accepted(open(&orig, &mut hist, 2));
     assert_ne!(hist, before);
@@ -440,7 +440,7 @@ fn release_takes_any_session_and_leaves_an_unlocked_history() {
         n: 999,
         ..st
     };
-    assert_eq!(accepted(release(stranger, &mut hist)), ENDED);
+    assert_eq!(accepted(release(stranger, &mut hist)), Session::ENDED);
     assert_eq!(hist, before);
 }
 
@@ -514,4 +514,82 @@ fn browsing() {
     forged[0] = 0;
     assert_eq!(browse_step(&forged, 0).kind, 0);
     assert_eq!(browse_step(&forged, 1), step(1));
+}
+
+#[test]
+fn what_the_history_and_its_records_say() {
+    let (orig, mut hist) = example();
+    let setting = Setting {
+        number: 0,
+        page_size: 16,
+        original: 20,
+        revisions: 2,
+        end: 466,
+        lock: false,
+        branching: false,
+    };
+    assert_eq!(setting_of(&hist), setting);
+    assert_eq!(setting_of(&hist[..466]), setting);
+    assert_eq!(setting_of(&hist[..465]).number, 5);
+
+    // Both records have two entries, so their texts start 72 + 48 bytes in.
+    let part = |offset, length| Part { offset, length };
+    let first = Record {
+        number: 0,
+        revision: 1,
+        parent: 0,
+        logical: 20,
+        user: 1000,
+        entries: 2,
+        time: part(92 + 24, 16),
+        name: part(92 + 120, 4),
+        comment: part(92 + 124, 1),
+    };
+    let second = Record {
+        revision: 2,
+        parent: 1,
+        logical: 21,
+        time: part(277 + 24, 16),
+        name: part(277 + 120, 4),
+        comment: part(277 + 124, 1),
+        ..first
+    };
+    assert_eq!(record_of(&hist, 1), first);
+    assert_eq!(record_of(&hist, 2), second);
+    assert_eq!(record_of(&hist, NEWEST), second);
+    assert_eq!(&hist[277 + 24..277 + 40], LATER);
+    assert_eq!(&hist[277 + 120..277 + 125], b"ana\0\0");
+
+    let original = record_of(&hist, 0);
+    let nowhere = part(0, 0);
+    let nothing = Record {
+        number: 0,
+        revision: 0,
+        parent: 0,
+        logical: 20,
+        user: 0,
+        entries: 0,
+        time: nowhere,
+        name: nowhere,
+        comment: nowhere,
+    };
+    assert_eq!(original, nothing);
+    assert_eq!(record_of(&hist, 3).number, 6);
+
+    accepted(open(&orig, &mut hist, NEWEST));
+    let lock = true;
+    assert_eq!(setting_of(&hist), Setting { lock, ..setting });
+    create(&mut hist, 0, 4096, true);
+    let created = Setting {
+        number: 0,
+        page_size: 4096,
+        original: 0,
+        revisions: 0,
+        end: 60,
+        lock: false,
+        branching: true,
+    };
+    assert_eq!(setting_of(&hist), created);
+    let logical = 0;
+    assert_eq!(record_of(&hist, NEWEST), Record { logical, ..nothing });
 }

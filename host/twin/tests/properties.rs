@@ -125,7 +125,7 @@ impl Model {
             };
             assert_eq!(answer.number, want);
             if want != 0 {
-                assert_eq!(answer.session, ENDED);
+                assert_eq!(answer.session, Session::ENDED);
                 assert!(hist == before);
                 return;
             }
@@ -142,7 +142,7 @@ impl Model {
         assert_eq!(open_at(self, hist, NEWEST).number, 11);
         match choice {
             0 => {
-                assert_eq!(accepted(release(open.session, hist)), ENDED);
+                assert_eq!(accepted(release(open.session, hist)), Session::ENDED);
                 return;
             }
             1 | 2 => {
@@ -150,7 +150,7 @@ impl Model {
                 let name = format!("user {k}\0");
                 let answer = commit(open.session, hist, TIME, 5, name.as_bytes(), b"why\0");
                 if answer.number == 0 {
-                    assert_eq!(answer.session, ENDED);
+                    assert_eq!(answer.session, Session::ENDED);
                     let end = open.session.end as usize;
                     assert!(hist[40..end] == before[40..end], "committed bytes stay");
                     self.revisions.push(open.bytes);
@@ -320,10 +320,20 @@ fn all_calls(
 
     let found = browse(hist, revision);
     see(found.number);
+    let told = record_of(hist, revision);
+    assert_eq!(told.number, found.number);
+    assert_eq!(setting_of(hist).number, browse(hist, 0).number);
     if found.number == 0 {
         let record = &hist[found.offset as usize..][..found.length as usize];
         let place = random.pick(&odd);
         assert!(browse_step(record, place).kind <= 1);
+        // The texts lie in the record, one behind the other, and end where its
+        // checksum begins.
+        if told.revision > 0 {
+            assert_eq!(told.name.offset + told.name.length, told.comment.offset);
+            let end = told.comment.offset + told.comment.length;
+            assert_eq!(end + 4, found.offset + found.length);
+        }
     }
     let start = random.below(end) as usize;
     let kind = browse_step(&hist[start..], at).kind;
@@ -359,7 +369,7 @@ fn all_calls(
         (answer, lent)
     };
     let data = vec![0x77; length];
-    calls(&mut |h| open(orig, h, revision), ENDED);
+    calls(&mut |h| open(orig, h, revision), Session::ENDED);
     calls(&mut |h| release(session, h), session);
     calls(&mut |h| write(session, orig, h, at, &data), session);
     let (answer, after) = calls(&mut |h| commit(session, h, TIME, 9, b"x\0", b"\0"), session);
@@ -382,7 +392,7 @@ fn every_call_is_total_and_refusals_change_nothing() {
         revise(&orig, &mut hist, 0, &[(14, b"abcd")]);
         revise(&orig, &mut hist, 1, &[(32, b"ef"), (39, b"grow")]);
         revise(&orig, &mut hist, 1, &[(16, b"gh")]);
-        let mut session = ENDED;
+        let mut session = Session::ENDED;
         if random.below(4) > 0 {
             let parent = random.below(4);
             session = accepted(open(&orig, &mut hist, parent));

@@ -61,7 +61,7 @@ fn ladder(scene: &Scene, faults: &[Fault], call: fn(&mut Scene) -> u64) {
 fn call_open(s: &mut Scene) -> u64 {
     let answer = open(&s.orig, &mut s.hist[..s.lent], s.revision);
     if answer.number != 0 {
-        assert_eq!(answer.session, ENDED);
+        assert_eq!(answer.session, Session::ENDED);
     }
     answer.number
 }
@@ -117,6 +117,28 @@ fn call_browse(s: &mut Scene) -> u64 {
     found.number
 }
 
+fn call_setting_of(s: &mut Scene) -> u64 {
+    let setting = setting_of(&s.hist[..s.lent]);
+    if setting.number != 0 {
+        assert!(!setting.lock && !setting.branching);
+        let numbers = [setting.page_size, setting.original, setting.revisions];
+        assert_eq!((numbers, setting.end), ([0; 3], 0));
+    }
+    setting.number
+}
+
+fn call_record_of(s: &mut Scene) -> u64 {
+    let record = record_of(&s.hist[..s.lent], s.revision);
+    if record.number != 0 {
+        let numbers = [record.revision, record.parent, record.logical];
+        assert_eq!((numbers, record.user, record.entries), ([0; 3], 0, 0));
+        for part in [record.time, record.name, record.comment] {
+            assert_eq!((part.offset, part.length), (0, 0));
+        }
+    }
+    record.number
+}
+
 fn call_check(s: &mut Scene) -> u64 {
     let checked = check(&s.hist[..s.lent]);
     match checked.number {
@@ -149,7 +171,7 @@ fn scene(session: bool) -> Scene {
     revise(&orig, &mut hist, 1, &[(64, b"gh")]);
     let session = match session {
         true => accepted(open(&orig, &mut hist, 2)),
-        false => ENDED,
+        false => Session::ENDED,
     };
     Scene {
         lent: hist.len(),
@@ -327,9 +349,12 @@ fn order_of_releasing() {
     ladder(&scene(true), &[F1, F2, F3], call_release);
     let mut s = scene(true);
     F5.1(&mut s);
-    s.session = Session { n: 9999, ..ENDED };
+    s.session = Session {
+        n: 9999,
+        ..Session::ENDED
+    };
     assert_eq!(call_release(&mut s), 0);
-    assert_eq!(s.session, ENDED);
+    assert_eq!(s.session, Session::ENDED);
     assert_eq!(s.hist[5], 2);
 }
 
@@ -337,6 +362,25 @@ fn order_of_releasing() {
 fn order_of_browsing() {
     let faults = [F1, F2, F3, F5, F6, F7, F8];
     ladder(&scene(false), &faults, call_browse);
+}
+
+#[test]
+fn order_of_telling() {
+    ladder(&scene(false), &[F1, F2, F3, F5], call_setting_of);
+    let faults = [F1, F2, F3, F5, F6, F7, F8];
+    ladder(&scene(false), &faults, call_record_of);
+    // Neither the records nor the pages matter to the setting, nor the other
+    // records and the pages to a record.
+    let mut s = scene(false);
+    F9.1(&mut s);
+    assert_eq!(call_record_of(&mut s), 0);
+    F7.1(&mut s);
+    assert_eq!(call_setting_of(&mut s), 0);
+    assert_eq!(call_record_of(&mut s), 7);
+    for other in [0, 1, 3] {
+        s.revision = other;
+        assert_eq!(call_record_of(&mut s), 0);
+    }
 }
 
 #[test]
@@ -408,6 +452,7 @@ fn all_answer(s: &Scene, number: u64) {
     let mut s = s.clone();
     assert_eq!(check(&s.hist).number, number, "check");
     assert_eq!(call_browse(&mut s), number, "browse");
+    assert_eq!(call_record_of(&mut s), number, "record");
     assert_eq!(call_list(&mut s), number, "list");
     assert_eq!(refused_untouched(&mut s, call_read), number, "read");
     assert_eq!(refused_untouched(&mut s, call_look_up), number, "look-up");
@@ -532,6 +577,7 @@ fn row_6() {
     for revision in [4, 5, 1024, u64::MAX - 1, 1 << 63] {
         s.revision = revision;
         assert_eq!(call_browse(&mut s), 6);
+        assert_eq!(call_record_of(&mut s), 6);
         assert_eq!(call_read(&mut s), 6);
         assert_eq!(call_look_up(&mut s), 6);
         assert_eq!(refused_untouched(&mut s, call_open), 6);
@@ -539,6 +585,7 @@ fn row_6() {
     for revision in [0, 1, 2, 3, NEWEST] {
         s.revision = revision;
         assert_eq!(call_browse(&mut s), 0);
+        assert_eq!(call_record_of(&mut s), 0);
         assert_eq!(call_read(&mut s), 0);
         assert_eq!(call_look_up(&mut s), 0);
     }
@@ -951,7 +998,7 @@ fn row_12() {
 #[test]
 fn row_13() {
     let faults: &[fn(&mut Scene)] = &[
-        |s| s.session = ENDED,
+        |s| s.session = Session::ENDED,
         |s| {
             s.hist[5] &= !1;
             repair(&mut s.hist, Repair::Header);
@@ -1043,7 +1090,7 @@ fn row_13() {
         count: 1024,
         parent: 1024,
         size: 5000,
-        ..ENDED
+        ..Session::ENDED
     };
     assert_eq!(refused_untouched(&mut s, call_write), 13);
     assert_eq!(refused_untouched(&mut s, call_commit), 13);

@@ -5,11 +5,11 @@ use borrow.Author.Needs.{needs}
 use Rattle.examples.proofs.show_list.Statement.{statement}
 use Rattle.examples.proofs.show_list.Tie as tie
 
-slice-aggregate-list : tie.Need-slice-aggregate-list
-slice-aggregate-list c = search needs
+slice-aggregate-list-program : tie.Need-slice-aggregate-list-program
+slice-aggregate-list-program c = search needs
 
-list-requires : tie.Need-list-requires
-list-requires c κs = search needs
+list-program-requires : tie.Need-list-program-requires
+list-program-requires c κs = search needs
 
 array-share-prefix-text : tie.Need-array-share-prefix-text
 array-share-prefix-text c = search needs
@@ -27,8 +27,8 @@ pub show-list-spec : {M : Type 1} → statement M
 show-list-spec =
     tie.close
     (tie.spec
-    slice-aggregate-list
-    list-requires
+    slice-aggregate-list-program
+    list-program-requires
     array-share-prefix-text
     slice-aggregate-write-all
     write-all-requires

@@ -14,14 +14,14 @@ read-full-requires c κs = search needs
 array-share-prefix-history : tie.Need-array-share-prefix-history
 array-share-prefix-history c = search needs
 
-slice-aggregate-list : tie.Need-slice-aggregate-list
-slice-aggregate-list c = search needs
+slice-aggregate-list-program : tie.Need-slice-aggregate-list-program
+slice-aggregate-list-program c = search needs
 
-slice-aggregate-list-2 : tie.Need-slice-aggregate-list-2
-slice-aggregate-list-2 c = search needs
+slice-aggregate-list-program-2 : tie.Need-slice-aggregate-list-program-2
+slice-aggregate-list-program-2 c = search needs
 
-list-requires : tie.Need-list-requires
-list-requires c κs = search needs
+list-program-requires : tie.Need-list-program-requires
+list-program-requires c κs = search needs
 
 array-share-prefix-text : tie.Need-array-share-prefix-text
 array-share-prefix-text c = search needs
@@ -42,9 +42,9 @@ main-spec =
     slice-aggregate-read-full
     read-full-requires
     array-share-prefix-history
-    slice-aggregate-list
-    slice-aggregate-list-2
-    list-requires
+    slice-aggregate-list-program
+    slice-aggregate-list-program-2
+    list-program-requires
     array-share-prefix-text
     slice-aggregate-write-all
     write-all-requires

@@ -32,7 +32,8 @@ record-length-requires : tie.Need-record-length-requires Inv-loop μ-loop
 record-length-requires c κs =
     let judged = c .before .before .judge .ensures in
     let zero = c .if2 .left in
-    let shown = record-shown _ _ _ (omega arith) (sym (judged .0) ∙ zero) (judged .1 zero) in
+    let standing = judged .1 zero in
+    let shown = record-shown _ _ _ (omega arith) (sym (judged .0) ∙ zero) (standing .sound) (standing .found) in
     (shown .named, shown .few)
 
 add-length : tie.Need-add-length Inv-loop μ-loop
@@ -48,7 +49,7 @@ loop-again c =
     let clear = sym (judged .0) ∙ zero in
     let standing = judged .1 zero in
     let long = c .record-length .ensures in
-    count-turn _ (c .before .before .before .before .before .before .loop .inv) (c .before .before .before .before .if1 .taken) clear (standing .found) (long .0 _ _ (record-shown _ _ _ (omega arith) clear standing)) (long .1)
+    count-turn _ (c .before .before .before .before .before .before .loop .inv) (c .before .before .before .before .if1 .taken) clear (standing .found) (long .0 _ _ (record-shown _ _ _ (omega arith) clear (standing .sound) (standing .found))) (long .1)
 
 returns-2 : tie.Need-returns-2 Inv-loop μ-loop
 returns-2 c =

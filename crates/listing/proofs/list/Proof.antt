@@ -14,7 +14,7 @@ same-length : tie.Need-same-length
 same-length c = search needs
 
 returns : tie.Need-returns
-returns c = (c .before .before .list-refused .ensures .0 ∙ list-refused _ _ (list-over _ (c .before .before .before .before .if1 .taken)) (λ z. omega arith), search needs)
+returns c = (c .before .before .list-refused .ensures .0 ∙ list-refused _ _ _ (list-over _ _ (c .before .before .before .before .if1 .taken)) (λ z. omega arith), search needs)
 
 judge-requires : tie.Need-judge-requires
 judge-requires c κs = search needs
@@ -28,7 +28,7 @@ same-length-2 c = search needs
 returns-2 : tie.Need-returns-2
 returns-2 c =
     let refused = c .before .before .before .before .if2 .taken in
-    (c .before .before .list-refused2 .ensures .0 ∙ list-refused _ _ (list-fault _ (c .before .before .before .before .before .before .before .if1 .left) (c .before .before .before .before .before .before .judge .ensures .0) refused) refused, search needs)
+    (c .before .before .list-refused2 .ensures .0 ∙ list-refused _ _ _ (list-fault _ _ (c .before .before .before .before .before .before .before .if1 .left) (c .before .before .before .before .before .before .judge .ensures .0) refused) refused, search needs)
 
 judge-records-requires : tie.Need-judge-records-requires
 judge-records-requires c κs = c .before .before .before .judge .ensures .1 (c .before .if2 .left)
@@ -44,7 +44,7 @@ returns-3 c =
     let refused = c .before .before .before .before .if3 .taken in
     let whole = c .before .before .before .before .before .before .before .before .before .before .judge .ensures in
     let zero = c .before .before .before .before .before .before .before .before .if2 .left in
-    (c .before .before .list-refused3 .ensures .0 ∙ list-refused _ _ (list-past _ (c .before .before .before .before .before .before .before .before .before .before .before .if1 .left) (whole .0) zero (whole .1 zero) (c .before .before .before .before .before .before .judge-records .ensures .0)) refused, search needs)
+    (c .before .before .list-refused3 .ensures .0 ∙ list-refused _ _ _ (list-past _ _ (c .before .before .before .before .before .before .before .before .before .before .before .if1 .left) (whole .0) zero (whole .1 zero) (c .before .before .before .before .before .before .judge-records .ensures .0)) refused, search needs)
 
 list-passed-requires : tie.Need-list-passed-requires
 list-passed-requires c κs =
@@ -60,7 +60,7 @@ returns-4 c =
     let whole = c .before .before .before .before .before .before .before .before .before .before .judge .ensures in
     let zero = c .before .before .before .before .before .before .before .before .if2 .left in
     let sound = whole .1 zero in
-    (c .before .before .list-passed .ensures .0 ∙ list-lines _ _ (list-past _ (c .before .before .before .before .before .before .before .before .before .before .before .if1 .left) (whole .0) zero sound (c .before .before .before .before .before .before .judge-records .ensures .0)) (c .before .before .before .before .if3 .left) (sound .setting), search needs)
+    (c .before .before .list-passed .ensures .0 ∙ list-lines _ _ _ (list-past _ _ (c .before .before .before .before .before .before .before .before .before .before .before .if1 .left) (whole .0) zero sound (c .before .before .before .before .before .before .judge-records .ensures .0)) (c .before .before .before .before .if3 .left) (sound .setting), search needs)
 
 pub list-spec : {M : Type 1} → statement M
 list-spec =

@@ -1,5 +1,4 @@
 -- What is written so far are the lines of the records so far, and every record passes.
-use mathlib.Core.Path.{_∙_}
 use Prim.Native.Nat.{_-_}
 use native.Mathlib.Omega.{arith}
 use Rattle.listing.proofs.Passing.{record-shown}
@@ -20,16 +19,18 @@ loop-holds c = written-start _ _ _ _ (c .before .before .before .pre)
 add-k : tie.Need-add-k Inv-loop μ-loop
 add-k c = search needs
 
-judge-requires : tie.Need-judge-requires Inv-loop μ-loop
-judge-requires c κs = (c .before .before .before .before .before .before .pre .1 .sound, search needs)
+passed-requires : tie.Need-passed-requires Inv-loop μ-loop
+passed-requires c κs =
+    let clear = written-clear (c .before .before .loop .inv) (c .if1 .taken) in
+    (c .before .before .before .before .before .before .pre .1 .sound, omega arith, omega arith, clear)
 
 put-record-line-requires : tie.Need-put-record-line-requires Inv-loop μ-loop
 put-record-line-requires c κs =
     let lines = c .before .before .before .before .loop .inv in
     let more = c .before .before .if1 .taken in
-    let clear = written-clear lines more in
-    let standing = c .before .judge .ensures .1 (c .before .judge .ensures .0 ∙ clear) in
-    (written-room lines more (standing .found), record-shown _ _ _ (omega arith) clear standing)
+    let found = c .before .passed .ensures in
+    let sound = c .before .before .before .before .before .before .before .before .pre .1 .sound in
+    (written-room lines more found, record-shown _ _ _ (omega arith) (written-clear lines more) sound found)
 
 loop-less : tie.Need-loop-less Inv-loop μ-loop
 loop-less c = search needs
@@ -38,8 +39,7 @@ loop-again : tie.Need-loop-again Inv-loop μ-loop
 loop-again c =
     let lines = c .before .before .before .before .before .before .before .loop .inv in
     let more = c .before .before .before .before .before .if1 .taken in
-    let standing = c .before .before .before .before .judge .ensures .1 (c .before .before .before .before .judge .ensures .0 ∙ written-clear lines more) in
-    written-turn lines more (standing .found) (c .before .before .put-record-line .ensures)
+    written-turn lines more (c .before .before .before .before .passed .ensures) (c .before .before .put-record-line .ensures)
 
 same-length : tie.Need-same-length Inv-loop μ-loop
 same-length c = written-length (c .before .before .loop .inv)
@@ -55,7 +55,7 @@ put-record-lines-spec =
     μ-loop
     loop-holds
     add-k
-    judge-requires
+    passed-requires
     put-record-line-requires
     loop-less
     loop-again

@@ -10,7 +10,7 @@ add-result : tie.Need-add-result
 add-result c = search needs
 
 returns : tie.Need-returns
-returns c = (λ h. refl, λ f. omega (arith, count-least f))
+returns c = (λ h. refl, λ f. omega (arith, count-least f), refl)
 
 pub time-at-spec : {M : Type 1} → statement M
 time-at-spec = tie.close (tie.spec add-result returns)

@@ -3,8 +3,8 @@
 use std::io::Write;
 
 use onion::{
-    History, Note, Refusal, Refused, Session, Summary, COMMENT_MOST, ENTRIES_MOST, NAME_MOST,
-    NEWEST, REVISIONS_MOST, SIZE_MOST, TOUCHED_MOST,
+    History, Note, Refusal, Refused, Session, Summary, ENTRIES_MOST, NEWEST, SIZE_MOST,
+    TOUCHED_MOST,
 };
 
 use super::{counted, Command};
@@ -102,15 +102,12 @@ fn user(arguments: &Arguments) -> Result<u32, Failure> {
     }
 }
 
-/// A copy of the history with room behind its committed end for the largest commit, as far as the limit allows.
+/// A copy of the history with all the room behind its committed end that the limit allows. The system gives the room
+/// only where it is stored to.
 fn with_room(bytes: &[u8], summary: &Summary) -> History<Vec<u8>> {
-    let pages = TOUCHED_MOST * summary.page_size as usize;
-    let record = 76 + 24 * ENTRIES_MOST + NAME_MOST + COMMENT_MOST;
-    let whole_history = 20 + 20 * REVISIONS_MOST;
-
     let end = summary.end as usize;
-    let mut copy = bytes[..end].to_vec();
-    copy.resize(SIZE_MOST.min(end + pages + record + whole_history), 0);
+    let mut copy = vec![0; SIZE_MOST];
+    copy[..end].copy_from_slice(&bytes[..end]);
     History::over(copy)
 }
 

@@ -30,39 +30,10 @@ Nothing is listed where a record is damaged.",
 
 fn run(arguments: &Arguments, output: &mut dyn Write) -> Result<(), Failure> {
     let history = History::over(files::read_history(arguments.path(0))?);
-    let summary = history.summary()?;
-    let progress = Progress::start(format!("listing {} revisions", summary.revisions));
-    let records = history.revisions().collect::<Result<Vec<_>, _>>()?;
+    let progress = Progress::start("listing the revisions".to_string());
+    let lines = history.list()?;
     drop(progress);
 
-    writeln!(
-        output,
-        "pages {} original {} revisions {} lock {} branch {}",
-        summary.page_size,
-        summary.original_length,
-        summary.revisions,
-        yes_or_no(summary.locked),
-        yes_or_no(summary.branching)
-    )?;
-    for record in records {
-        writeln!(
-            output,
-            "{} {} {} {} {} {}",
-            record.revision(),
-            record.parent(),
-            record.time(),
-            record.logical_size(),
-            record.entry_count(),
-            record.name()
-        )?;
-    }
+    output.write_all(lines.as_bytes())?;
     Ok(())
-}
-
-fn yes_or_no(flag: bool) -> &'static str {
-    if flag {
-        "yes"
-    } else {
-        "no"
-    }
 }

@@ -42,7 +42,7 @@ fn run(arguments: &Arguments, output: &mut dyn Write) -> Result<(), Failure> {
     for record in history.revisions() {
         let record = record?;
         labels.push(label(&record));
-        parents.push(record.parent() as usize);
+        parents.push(record.parent as usize);
     }
     drop(progress);
 
@@ -56,10 +56,10 @@ fn run(arguments: &Arguments, output: &mut dyn Write) -> Result<(), Failure> {
 fn label(record: &Record<'_>) -> String {
     let label = format!(
         "{}  {}  {}  {}",
-        record.revision(),
-        readable(record.time()),
-        record.name(),
-        record.comment()
+        record.revision,
+        readable(record.time),
+        record.name,
+        record.comment
     );
     label.trim_end().to_string()
 }

@@ -10,15 +10,6 @@ use twin::*;
 /// As the length of a buffer.
 pub const LIMIT: usize = forge::LIMIT as usize;
 
-pub const ENDED: Session = Session {
-    end: 0,
-    count: 0,
-    parent: 0,
-    size: 0,
-    n: 0,
-    pages: [0; 256],
-};
-
 /// Address and size of the whole history.
 pub fn whole(hist: &[u8]) -> (usize, usize) {
     let whole = forge::whole(hist).expect("a whole history");
@@ -65,7 +56,10 @@ pub fn revise(orig: &[u8], hist: &mut [u8], parent: u64, parts: &[(u64, &[u8])])
     for &(at, data) in parts {
         st = accepted(write(st, orig, hist, at, data));
     }
-    assert_eq!(accepted(commit(st, hist, TIME, 7, b"ana\0", b"\0")), ENDED);
+    assert_eq!(
+        accepted(commit(st, hist, TIME, 7, b"ana\0", b"\0")),
+        Session::ENDED
+    );
 }
 
 /// The paper's example: an original of 20 bytes, pages of 16, a buffer of 512,

@@ -1,4 +1,4 @@
-//! Links the proved store, for this package and for `compare`.
+//! Links the proved store.
 //!
 //! - `ONION_LIBRARY_FOLDER` is the folder that holds it, from the root or from the package's folder; unless set it is
 //!   the repository's `target/lib`, where `make lib` puts it.
