@@ -20,12 +20,13 @@ use native.Mathlib.Nat.{
   div-eq-of-lt,
   mod-eq-of-lt,
   mul-mod-left,
+  mod-lt,
 }
 use native.Mathlib.Numerals.{add-one}
 use native.Mathlib.Omega.{arith}
 use lib.Dec.{leb}
 use lib.ListN.{length, take, set, getD, length-append, length-set}
-use lib.Seq.{length-take-le, take-suc, take-set-le, getD-set-same}
+use lib.Seq.{length-take-le, take-length, take-append-seam, take-take, take-suc, take-set-le, getD-set-same}
 use borrow.Author.Tests.{lt-ltb, le-ltb, leb-true, leb-false}
 use Rattle.rules.specs.Layout.{entriesWidth, entryAt, entriesIn}
 use Rattle.rules.specs.View.{placeOf, has, logicals, hasPage, entryOf, pageOf, ownPages, pagesFrom, pagesIn}
@@ -140,6 +141,15 @@ unfolding pagesIn
 pages-end-near p at zero l = rw zero-mul (omega (arith, div-add-mod' at p))
 pages-end-near p at (suc n) l = omega (arith, span ((at + n) / p) (at / p) p (leb (at / p) ((at + n) / p)) refl, div-add-mod' (at + n) p, div-add-mod' at p)
 
+-- The pages of a range that has bytes reach to its end.
+pub pages-reach : (p at n : ℕ) → 0 < p → 0 < n → at + n ≤ pageOf p at + pagesIn p at n * p
+unfolding pagesIn
+pages-reach p at zero pos some = absurd (omega arith)
+pages-reach p at (suc n) pos some =
+    let c : at / p + ((at + n) / p - at / p + 1) ≡ suc ((at + n) / p) = omega (arith, pages-order p at n pos) in
+    let d : at / p * p + ((at + n) / p - at / p + 1) * p ≡ (at + n) / p * p + p = sym (add-mul (at / p) ((at + n) / p - at / p + 1) p) ∙ rw (c, suc-mul) in
+    omega (arith, div-add-mod' (at + n) p, mod-lt (at + n) pos)
+
 -- ---- where a page stands in an index
 
 module _ (h : List ℕ) (x : Index) (a : ℕ) {place : ℕ} (e : place ≡ placeOf a (logicals (entriesIn h x))) where
@@ -187,6 +197,18 @@ touching-grows own (a ∷ pages) =
     ⊎-elim
     (λ (t : has own a ≡ true). rw t (touching-grows own pages))
     (λ (t : has own a ≡ false). rw t (omega (arith, touching-grows (own ++ (a ∷ [])) pages, length-append own (a ∷ []))))
+    (either (has own a))
+
+pub touching-front : (own pages : List ℕ) → take (length own) (touching own pages) ≡ own
+unfolding touching
+touching-front own [] = take-length own
+touching-front own (a ∷ pages) =
+    ⊎-elim
+    (λ (t : has own a ≡ true). rw t (touching-front own pages))
+    (λ (t : has own a ≡ false).
+    let more : List ℕ = own ++ (a ∷ []) in
+    let l : length own ≤ length more = rw (length-append own (a ∷ [])) (omega arith) in
+    rw t (sym (take-take (length own) (length more) (touching more pages) l) ∙ rw (touching-front more pages) (take-append-seam own (a ∷ []))))
     (either (has own a))
 
 pub place-touching : (a : ℕ) (own pages : List ℕ) → placeOf a own < length own → placeOf a (touching own pages) ≡ placeOf a own

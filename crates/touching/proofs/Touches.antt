@@ -111,21 +111,14 @@ over-run {p} {a} {offset} {skip} {from} {end} h to bytes w =
     rw (w .ends, w .starts) (between (min (offset + length bytes) (a + p)) (max offset a) offset (omega arith)) in
     rw (d, w .skips, w .starts)
 
--- The run in a page that the write covers.
-pub whole-run : {p a offset n : ℕ} → offset ≤ a → a - offset + p ≤ n → Within p a offset n 0 (a - offset) (a - offset + p)
-whole-run l m = record {
-  skips = omega arith;
-  starts = omega arith;
-  ends = omega arith;
-  ordered = omega arith;
-  in-bytes = m;
-  in-page = omega arith;
-}
-
-pub whole-long : {p : ℕ} (a offset : ℕ) (bytes : List ℕ) → a - offset + p ≤ length bytes → length (take (a - offset + p - (a - offset)) (drop (a - offset) bytes)) ≡ p
-whole-long {p} a offset bytes m =
+-- A page that the write covers has its run from its start on.
+pub over-whole : (p a offset : ℕ) (h : List ℕ) (to : ℕ) (bytes : List ℕ) → offset ≤ a → a - offset + p ≤ length bytes
+    → laid h (to + 0) (part bytes (a - offset) p) ≡ overPage h to p a offset bytes
+over-whole p a offset h to bytes l m =
+    let w : Within p a offset (length bytes) 0 (a - offset) (a - offset + p) =
+    record { skips = omega arith; starts = omega arith; ends = omega arith; ordered = omega arith; in-bytes = m; in-page = omega arith } in
     let e : a - offset + p - (a - offset) ≡ p = omega arith in
-    rw e (length-part bytes (a - offset) p m)
+    rw e at (over-run h to bytes w)
 
 pub run-long : {p a offset skip from end : ℕ} (bytes : List ℕ) → Within p a offset (length bytes) skip from end
     → skip + length (take (end - from) (drop from bytes)) ≡ skip + (end - from)

@@ -1,14 +1,14 @@
 -- The bytes that a first touch copies, and what has to hold for pages to be touched.
 use mathlib.Core.Path.{_≡_}
-use mathlib.Core.Bool.{cond}
+use mathlib.Core.Bool.{false, cond}
 use mathlib.Core.List.{List}
-use Prim.Native.Nat.{ℕ, _+_, _*_, _-_, _≤_, _<_, min, max}
+use Prim.Native.Nat.{ℕ, zero, suc, _+_, _*_, _-_, _≤_, _<_, min, max}
 use lib.Dec.{ltb}
 use lib.ListN.{length, getD}
 use Rattle.rules.specs.Bytes.{byteAt}
 use Rattle.rules.specs.Layout.{limit, touchLimit, entriesWidth, entriesIn}
 use Rattle.rules.specs.Orders.{Rising}
-use Rattle.rules.specs.View.{noEntry, logicals, hasPage, entryOf, ownPages}
+use Rattle.rules.specs.View.{has, noEntry, logicals, hasPage, entryOf, ownPages}
 use Rattle.rules.specs.Session.{touching, mergedCount}
 use Rattle.rules.specs.declared.Setting.{Setting}
 use Rattle.rules.specs.declared.Index.{Index}
@@ -47,6 +47,15 @@ pub record Within (p a offset n skip from end : ℕ) : Type 0 where
   pub in-bytes : end ≤ n
   pub in-page : skip + (end - from) ≤ p
 
+-- The write covers r pages from the one at an address on.
+pub record Covers (p a offset n r : ℕ) : Type 0 where
+  pub starts : 0 < r → offset ≤ a
+  pub ends : a - offset + r * p ≤ n
+
+-- None of r pages from an address on is among others.
+abbrev pub AllNew : List ℕ → ℕ → ℕ → ℕ → Type 0
+AllNew own p a r = (i : ℕ) → i < r → has own (a + i * p) ≡ false
+
 -- The pages can be touched.
 pub record Ready (h : List ℕ) (s : Setting) (x : Index) (index : List Entry) (st : State) (pages : List ℕ) : Type 0 where
   pub sized : Paged (s .form)
@@ -62,6 +71,11 @@ pub record Ready (h : List ℕ) (s : Setting) (x : Index) (index : List Entry) (
   -- Rows 14 and 15.
   pub touches : length (touching (ownPages st) pages) ≤ touchLimit
   pub room : st .end + length (touching (ownPages st) pages) * s .form .page ≤ length h
+
+-- How many of m pages of p bytes from an address on an index does not have.
+unfoldable pub missing : List Entry → ℕ → ℕ → ℕ → ℕ
+missing index p a zero = 0
+missing index p a (suc m) = missing index p a m + cond (hasPage index (a + m * p)) 0 1
 
 -- How many pages and entries pages touched would leave; once there are over 256 pages they need not be counted further.
 pub record Counted (index : List Entry) (own pages : List ℕ) (touched merged : ℕ) : Type 0 where

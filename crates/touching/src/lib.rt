@@ -3,15 +3,16 @@ use rules::Index;
 use rules::Setting;
 use rules::State;
 ghost use mathlib.Core.Path.{_≡_};
-ghost use Prim.Native.Nat.{_+_, _≤_};
+ghost use mathlib.Core.Bool.{false};
+ghost use Prim.Native.Nat.{_+_, _*_, _≤_, _<_};
 ghost use lib.ListN.{length, take};
 ghost use Rattle.rules.specs.Bytes.{laid, tabulate};
 ghost use Rattle.rules.specs.Layout.{limit, entryLimit, touchLimit, entriesWidth, entriesIn};
 ghost use Rattle.rules.specs.Orders.{Rising};
-ghost use Rattle.rules.specs.View.{logicals, pagesShared};
+ghost use Rattle.rules.specs.View.{has, logicals, pagesShared};
 ghost use Rattle.rules.specs.Session.{Held, overPage, writtenPages, mergedCount};
 ghost use Rattle.layout.specs.Paged.{Paged, farthest};
-ghost use Rattle.touching.specs.Pages.{Source, Ready, Shares, Within, Counted, pageByte, keptByte};
+ghost use Rattle.touching.specs.Pages.{Source, Ready, Shares, Within, Covers, AllNew, Counted, missing, pageByte, keptByte};
 
 // ---- One page
 
@@ -113,34 +114,60 @@ fn put_around(
     );
 }
 
-// The same, of any page that the write shares a byte with: one that it covers has nothing of the copy left.
-fn put_new(
-    history: &mut [u8],
-    original: &[u8],
-    p: Page,
-    to: usize,
-    page: usize,
-    offset: usize,
-    bytes: &[u8],
-)
-    requires { ⌜ (Shares page (p .address) offset (length (now bytes))) × (Source (now history) (p .x) to 0 page) ⌝ }
-    ensures { λ _. ⌜ now (history .exit) ≡ overPage (laid (now (history .entry)) to (tabulate page (keptByte (now (original .entry)) (now (history .entry)) (entriesIn (now (history .entry)) (p .x)) (p .address) (p .size)))) to page (p .address) offset (now (bytes .entry)) ⌝ }
-{
-    if offset <= p.address {
-        let from = p.address - offset;
-        let end = from + page;
-        if end <= bytes.len() {
-            runs::put_run(history, to, &bytes[from..end]);
-            return;
-        }
-    }
-    put_around(history, original, p, to, page, offset, bytes);
-}
-
 // ---- All of a write's pages
 
+// How many pages a write of n bytes at an offset covers, from one on that shares a byte with it.
+fn covered(page: usize, address: usize, offset: usize, n: usize) -> usize
+    requires { ⌜ (Shares page address offset n) × (0 < page) ⌝ }
+    ensures { λ r. ⌜ Covers page address offset n r ⌝ }
+{
+    if address < offset {
+        return 0;
+    }
+    let rest = n - (address - offset);
+    // No division for a write of less than a page.
+    if rest < page {
+        return 0;
+    }
+    rest / page
+}
+
+// How many pages from one on are none of the first n of a session's pages, counted up to the most asked for. The first of them is
+// known to be none.
+fn new_pages(pages: &[u32], n: usize, first: usize, page: usize, most: usize) -> usize
+    requires { ⌜ (n ≤ length (now pages)) × (has (take n (now pages)) first ≡ false) × (1 ≤ most) × (first + most * page ≤ farthest) ⌝ }
+    ensures { λ r. ⌜ (1 ≤ r) × (r ≤ most) × AllNew (take n (now (pages .entry))) page first r ⌝ }
+{
+    // A session's first write searches nothing.
+    if n == 0 {
+        return most;
+    }
+    let mut k = 1;
+    while k < most {
+        let here = first + k * page;
+        if index::own_place(pages, n, here as u64) < n {
+            return k;
+        }
+        k += 1;
+    }
+    k
+}
+
+// Notes m pages from an address on behind the first n of a session's pages.
+fn note_pages(pages: &mut [u32; 256], n: usize, first: usize, page: usize, m: usize)
+    requires { ⌜ (length (now pages) ≡ touchLimit) × (n + m ≤ touchLimit) × (first + m * page ≤ limit) ⌝ }
+    ensures { λ _. ⌜ now (pages .exit) ≡ laid (now (pages .entry)) n (tabulate m (λ i. first + i * page)) ⌝ }
+{
+    let mut k = 0;
+    while k < m {
+        pages[n + k] = (first + k * page) as u32;
+        k += 1;
+    }
+}
+
 // A write over each page that it shares a byte with, in rising order. None of them is one that the write itself touched before, so
-// only the pages that the session had ahead of the write are searched.
+// only the pages that the session had ahead of the write are searched. New pages that the write covers follow each other in the
+// written bytes as in the history, so they are stored as one run.
 pub fn write_pages(
     st: State,
     original: &[u8],
@@ -165,23 +192,37 @@ pub fn write_pages(
         // Read here, so that the loop's invariant speaks of the setting.
         let page = s.form.page as usize;
         let here = a;
-        a += page;
-        k += 1;
-        let place = index::own_place(&st.pages, before, here as u64);
+        let place = index::own_place(&t.pages, before, here as u64);
         if place < before {
+            a += page;
+            k += 1;
             let to = t.end as usize + place * page;
             put_own(&mut *history, to, page, here, offset, bytes);
         } else {
             let n = t.n as usize;
             let to = t.end as usize + n * page;
-            let p = Page {
-                x,
-                address: here,
-                size: t.size as usize,
-            };
-            put_new(&mut *history, original, p, to, page, offset, bytes);
-            t.pages[n] = here as u32;
-            t.n += 1;
+            let whole = covered(page, here, offset, bytes.len());
+            if whole == 0 {
+                a += page;
+                k += 1;
+                let p = Page {
+                    x,
+                    address: here,
+                    size: t.size as usize,
+                };
+                put_around(&mut *history, original, p, to, page, offset, bytes);
+                t.pages[n] = here as u32;
+                t.n += 1;
+            } else {
+                let some = new_pages(&t.pages, before, here, page, whole);
+                let from = here - offset;
+                let end = from + some * page;
+                a += some * page;
+                k += some;
+                runs::put_run(&mut *history, to, &bytes[from..end]);
+                note_pages(&mut t.pages, n, here, page, some);
+                t.n += some as u64;
+            }
         }
     }
     t
@@ -191,6 +232,40 @@ pub fn write_pages(
 pub struct Counts {
     pub touched: usize,
     pub merged: usize,
+}
+
+// How many of m pages from an address on an index does not have. Pages and entries both rise, so they are passed side by side, the
+// pages ahead of an entry all at once.
+fn missing_pages(history: &[u8], x: Index, first: usize, m: usize) -> usize
+    requires { ⌜ (x .at + entriesWidth (x .form) (x .entries) ≤ length (now history)) × (Rising (logicals (entriesIn (now history) x))) × (Paged (x .form)) × (first + m * x .form .page ≤ farthest) ⌝ }
+    ensures { λ r. ⌜ r ≡ missing (entriesIn (now (history .entry)) x) (x .form .page) first m ⌝ }
+{
+    let page = x.form.page;
+    let end = first as u64 + m as u64 * page;
+    let mut place = index::place_from(history, x, first as u64);
+    let mut count: usize = 0;
+    let mut k: usize = 0;
+    while k < m {
+        if x.entries <= place {
+            return count + (m - k);
+        }
+        let next = index::logical(history, x, place);
+        if end <= next {
+            return count + (m - k);
+        }
+        let here = first as u64 + k as u64 * page;
+        if here < next {
+            let ahead = ((next - here - 1) / page) as usize + 1;
+            count += ahead;
+            k += ahead;
+        } else if next < here {
+            place += 1;
+        } else {
+            place += 1;
+            k += 1;
+        }
+    }
+    count
 }
 
 // Counts them for a write of `len` bytes at an offset into a session of n pages, whose index would have `before` entries without
@@ -218,14 +293,18 @@ pub fn count_pages(
         if (layout::TOUCHED as usize) < touched {
             return Counts { touched, merged };
         }
-        let here = a as u64;
-        a += page;
-        k += 1;
-        if n <= index::own_place(pages, n, here) {
-            touched += 1;
-            if x.entries <= index::find(history, x, here) {
-                merged += 1;
-            }
+        let here = a;
+        if n <= index::own_place(pages, n, here as u64) {
+            // One page too many is enough to tell.
+            let most = numbers::least(m - k, layout::TOUCHED as usize + 1 - touched);
+            let some = new_pages(pages, n, here, page, most);
+            touched += some;
+            merged += missing_pages(history, x, here, some);
+            a += some * page;
+            k += some;
+        } else {
+            a += page;
+            k += 1;
         }
     }
     Counts { touched, merged }
