@@ -1,10 +1,9 @@
 -- The place of a revision's record, as the code comes to it.
 use mathlib.Core.Path.{_≡_, refl}
 use mathlib.Core.List.{List}
-use Prim.Native.Nat.{ℕ, zero, suc, _+_, _-_, _≤_}
+use Prim.Native.Nat.{ℕ, zero, suc, _+_, _≤_}
 use native.Mathlib.Omega.{arith}
-use lib.ListN.{length, take, drop}
-use Rattle.rules.specs.Bytes.{part}
+use lib.ListN.{length}
 use Rattle.rules.specs.Layout.{settingOf, recordOf}
 use Rattle.rules.specs.Calls.{historyRows, recordRows, asked, browseRows, browse}
 use Rattle.rules.specs.declared.Setting.{Setting}
@@ -57,7 +56,3 @@ place-room h revision q = rw q (go (browseRows h revision) refl)
     go : (n : ℕ) → browseRows h revision ≡ n → browse h revision .offset + browse h revision .length ≤ length h
     go zero z = rw z (rows-ends h revision z)
     go (suc n) z = rw z (omega arith)
-
--- The part of the history there.
-pub part-there : (h : List ℕ) (at n : ℕ) → take (at + n - at) (drop at h) ≡ part h at n
-part-there h at n = let l : at + n - at ≡ n = omega arith in rw l

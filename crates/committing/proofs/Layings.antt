@@ -37,7 +37,7 @@ use Rattle.rules.specs.declared.Record.{Record}
 use Rattle.rules.specs.declared.Entry.{Entry}
 use Rattle.rules.specs.declared.Index.{Index}
 use Rattle.rules.specs.declared.State.{State}
-use Rattle.rules.proofs.Bytes.{length-laid, part-laid-below, byte-laid-below, laid-then}
+use Rattle.rules.proofs.Bytes.{length-laid, part-laid-below, laid-then, byte-below}
 use Rattle.rules.proofs.Places.{end-behind, entry-least, entries-product}
 use Rattle.rules.proofs.Range.{page-lies}
 use Rattle.rules.proofs.Entries.{entries-laid, length-indexBytes, length-merged, sums-laid}
@@ -211,7 +211,7 @@ module _ {h : List ℕ} {s : Setting} {st : State} {parent r : Record} {time nam
     lock-left : Locked h2
     lock-left =
         let w = sound q in
-        rw (p2, byte-laid-below h (r .address) stored whole-fits 5 (omega (arith, stored-behind q, w .behind, end-behind (s .form) 0 headerWidth))) (lock-stands q)
+        rw (p2, byte-below h (r .address) stored (omega (arith, whole-fits)) 5 (omega (arith, stored-behind q, w .behind, end-behind (s .form) 0 headerWidth))) (lock-stands q)
 
     pub extensible : (Extensible h2 s r) × (r .address ≤ farthest) × (headerWidth ≤ length h2)
     extensible =

@@ -12,7 +12,7 @@ use Rattle.rules.specs.declared.Form.{Form}
 use Rattle.rules.specs.declared.Setting.{Setting}
 use Rattle.rules.specs.declared.Record.{Record}
 use Rattle.rules.proofs.Places.{count-least}
-use Rattle.rules.proofs.Bytes.{laid-then}
+use Rattle.rules.proofs.Bytes.{laid-then, slice-part}
 use Rattle.listing.specs.Written.{Written, Shown}
 
 -- A run of bytes that was laid is a text that was written,
@@ -66,15 +66,12 @@ setting-written s h w1 w2 w3 w4 w5 e =
 abbrev pub between : List ℕ → ℕ → ℕ → List ℕ
 between h from n = take (from + n - from) (drop from h)
 
-between-part : (h : List ℕ) (from n : ℕ) → between h from n ≡ part h from n
-between-part h from n = let l : from + n - from ≡ n = omega arith in rw l
-
 -- What is shown of time and name, by their places.
 time-between : (h : List ℕ) (r : Record) (time : ℕ) → part h time 16 ≡ timeOf h r → timeOf h r ≡ between h time 16
-time-between h r time e = sym e ∙ sym (between-part h time 16)
+time-between h r time e = sym e ∙ sym (slice-part h time 16)
 
 name-between : (h : List ℕ) (f : Form) (r : Record) (name : ℕ) → name ≡ nameAt f r → shownName h f r ≡ between h name (r .name - 1)
-name-between h f r name e = take-take (r .name - 1) (r .name) _ (omega arith) ∙ rw (← e) (sym (between-part h name (r .name - 1)))
+name-between h f r name e = take-take (r .name - 1) (r .name) _ (omega arith) ∙ rw (← e) (sym (slice-part h name (r .name - 1)))
 
 module _ {h : List ℕ} {f : Form} {r : Record} (s : Shown h f r) where
   time-long : length (timeOf h r) ≡ 16

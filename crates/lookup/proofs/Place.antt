@@ -7,7 +7,6 @@ use native.Mathlib.Omega.{arith}
 use lib.Dec.{eqb}
 use lib.ListN.{length, take, drop}
 use borrow.Author.Tests.{lt-ltb, le-ltb, eq-eqb, ne-eqb}
-use Rattle.rules.specs.Bytes.{part}
 use Rattle.rules.specs.Layout.{entriesWidth, entryAt, entriesIn}
 use Rattle.rules.specs.View.{placeOf, logicals}
 use Rattle.rules.specs.Rows.{lookUpOutside, notInOriginal, pageWrong}
@@ -17,6 +16,7 @@ use Rattle.rules.specs.declared.Record.{Record}
 use Rattle.rules.specs.declared.Index.{Index}
 use Rattle.rules.specs.declared.Entry.{Entry}
 use Rattle.rules.specs.declared.Found.{Found}
+use Rattle.rules.proofs.Bytes.{slice-part}
 use Rattle.rules.proofs.Rows.{rows-hold, left-alone}
 use Rattle.rules.proofs.Range.{page-there, page-missing, entry-there}
 use Rattle.records.specs.Sound.{Standing, indexIn}
@@ -63,9 +63,6 @@ module _ (o h : List ℕ) (revision at : ℕ) where
 
 -- ---- The page as a part
 
-page-part : (xs : List ℕ) (at n : ℕ) → take (at + n - at) (drop at xs) ≡ part xs at n
-page-part xs at n = let e : at + n - at ≡ n = omega arith in rw e
-
 -- A refusal names the empty part at the original's start.
 pub refused-lies : (o h : List ℕ) (number : ℕ) {f : Found} → f ≡ notFound number → Lies o h f
 refused-lies o h number e = rw e (record { within = omega arith })
@@ -88,8 +85,8 @@ module _ (o h : List ℕ) {f : Found} (w : Lies o h f) where
 module _ (o h : List ℕ) {f l : Found} (e : f ≡ l) (a b i j : ℕ) where
   pub part-history : f .source ≡ 1
       → (take (f .offset + f .length - f .offset) (drop (f .offset) h) ≡ pageAt o h l) × (a ≡ cond (eqb (l .source) 1) a b) × (f .offset + i ≡ cond (eqb (l .source) 1) i j + l .offset)
-  part-history s = rw (← e, eq-eqb (f .source) 1 s) (page-part h (f .offset) (f .length), refl, omega arith)
+  part-history s = rw (← e, eq-eqb (f .source) 1 s) (slice-part h (f .offset) (f .length), refl, omega arith)
 
   pub part-original : (f .source ≡ 1 → ⊥)
       → (take (f .offset + f .length - f .offset) (drop (f .offset) o) ≡ pageAt o h l) × (b ≡ cond (eqb (l .source) 1) a b) × (f .offset + j ≡ cond (eqb (l .source) 1) i j + l .offset)
-  part-original s = rw (← e, ne-eqb (f .source) 1 s) (page-part o (f .offset) (f .length), refl, omega arith)
+  part-original s = rw (← e, ne-eqb (f .source) 1 s) (slice-part o (f .offset) (f .length), refl, omega arith)

@@ -41,12 +41,14 @@ use Rattle.rules.specs.Layout.{
   timeRight,
   textRight,
   locatedSize,
+  timeAt,
 }
 use Rattle.rules.specs.Rows.{entriesRight, recordLies, recordFields, recordWrong, recordSumWrong}
 use Rattle.rules.specs.Calls.{row, _then_, recordRows}
 use Rattle.rules.specs.declared.Form.{Form}
 use Rattle.rules.specs.declared.Setting.{Setting}
 use Rattle.rules.specs.declared.Record.{Record}
+use Rattle.rules.proofs.Bytes.{slice-part}
 use Rattle.rules.proofs.Places.{end-behind, entries-none}
 use Rattle.rules.proofs.Rows.{both, row-clear, then-clear, must-hold, row-holds}
 use Rattle.rules.proofs.Records.{LiesFacts, lies-facts, record-right, fields-logical}
@@ -89,11 +91,11 @@ module _ (s : Setting) (r : Record) where
 
 pub fields-parts : (h : List ℕ) (s : Setting) (k : ℕ) (r : Record) {started timed : Bool}
     → started ≡ same (part h (r .address) 4) recordSignature && same (part h (r .address + 4) 4) (versionBytes (s .form))
-    → timed ≡ timeRight (take (r .address + 24 + 16 - (r .address + 24)) (drop (r .address + 24) h))
+    → timed ≡ timeRight (take (timeAt r + 16 - timeAt r) (drop (timeAt r) h))
     → started && eqb (r .revision) k && ltb (r .parent) k && timed && (leb (s .original) (r .logical) && leb (r .logical) limit) && eqb (r .page) (s .form .page)
     ≡ recordFields h s k r
 unfolding recordFields
-fields-parts h s k r a c = let e : r .address + 24 + 16 - (r .address + 24) ≡ 16 = omega arith in rw (a, c, e)
+fields-parts h s k r a c = rw (a, c, slice-part h (timeAt r) 16)
 
 -- ---- Name and comment
 

@@ -56,14 +56,14 @@ use Rattle.rules.specs.declared.Setting.{Setting}
 use Rattle.rules.specs.declared.Record.{Record}
 use Rattle.rules.specs.declared.Entry.{Entry}
 use Rattle.rules.specs.declared.State.{State}
-use Rattle.rules.proofs.Bytes.{length-part, length-laid, part-laid, part-tabulate, tabulate-same}
+use Rattle.rules.proofs.Bytes.{length-part, length-laid, part-laid, part-tabulate, tabulate-same, byte-below}
 use Rattle.rules.proofs.Checksum.{checksum-less}
 use Rattle.rules.proofs.Rows.{both, row-clear, then-clear}
 use Rattle.rules.proofs.Places.{end-behind, end-ordered}
 use Rattle.rules.proofs.Entries.{EntryRight, either, page-fits, pages-differ, place-value, length-merged}
 use Rattle.rules.proofs.Rising.{rising-putAll}
 use Rattle.rules.proofs.Range.{page-at, page-lies, own-length}
-use Rattle.rules.proofs.Writes.{byte-below, shown-own}
+use Rattle.rules.proofs.Writes.{shown-own}
 use Rattle.rules.proofs.Same.{Same, same-within, same-then, part-same, part-inside, sums-moved, sums-more}
 use Rattle.rules.proofs.Headers.{page-most, HeaderFacts, header-facts, WholeFacts, whole-summed}
 use Rattle.rules.proofs.RoundTrips.{first-piece, next-piece, EntryFits, location-back, length-locationBytes, SettingFits, header-back, length-wholeBytes, WholeBack, whole-back, RecordBack, length-recordBytes, record-back}

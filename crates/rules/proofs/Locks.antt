@@ -20,11 +20,11 @@ use Rattle.rules.specs.Moments.{openedOn}
 use Rattle.rules.specs.History.{Revision, nothing, laidOn, touchedBy}
 use Rattle.rules.specs.declared.Setting.{Setting}
 use Rattle.rules.specs.declared.State.{State}
-use Rattle.rules.proofs.Bytes.{length-laid, part-laid}
+use Rattle.rules.proofs.Bytes.{length-laid, part-laid, byte-above}
 use Rattle.rules.proofs.Rows.{row-clear, then-clear}
 use Rattle.rules.proofs.Places.{end-behind}
 use Rattle.rules.proofs.Entries.{has-nowhere}
-use Rattle.rules.proofs.Writes.{byte-above, shown-parent}
+use Rattle.rules.proofs.Writes.{shown-parent}
 use Rattle.rules.proofs.Same.{Same, same-within, count-same}
 use Rattle.rules.proofs.Headers.{HeaderFacts, header-facts, WholeFacts, whole-facts, whole-same}
 use Rattle.rules.proofs.RoundTrips.{SettingFits, length-headerBytes, header-back}

@@ -20,7 +20,7 @@ use Rattle.rules.specs.History.{laidOn, touchedBy, Revision, nothing}
 use Rattle.rules.specs.declared.Setting.{Setting}
 use Rattle.rules.specs.declared.Entry.{Entry}
 use Rattle.rules.specs.declared.State.{State}
-use Rattle.rules.proofs.Bytes.{part-tabulate, tabulate-same}
+use Rattle.rules.proofs.Bytes.{part-tabulate, tabulate-same, length-over, byte-below, byte-on, byte-above}
 use Rattle.rules.proofs.Rows.{row-clear, then-clear}
 use Rattle.rules.proofs.Places.{end-behind}
 use Rattle.rules.proofs.Entries.{either}
@@ -30,7 +30,7 @@ use Rattle.rules.proofs.Headers.{WholeFacts, whole-facts}
 use Rattle.rules.proofs.Sessions.{SessionRight, session-right, right-session, or-none, fits-larger, fits-touching}
 use Rattle.rules.proofs.Stored.{pages-lie, Stored, stay}
 use Rattle.rules.proofs.Holds.{Holds, both-pass, pages-pass, some-page, same-setting, grown-behind, holds-behind}
-use Rattle.rules.proofs.Writes.{length-over, byte-below, byte-on, byte-above, afterWrite, byte-written, Leaves, write-leaves}
+use Rattle.rules.proofs.Writes.{afterWrite, byte-written, Leaves, write-leaves}
 
 -- The bytes of a session, by what was noted of it.
 abbrev pub notedBytes : List Revision → Logged → List ℕ

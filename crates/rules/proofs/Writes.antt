@@ -1,14 +1,14 @@
 -- The session's bytes after a write: its bytes before, with the write laid on.
 use mathlib.Core.Path.{_≡_, refl, sym, ap, _∙_}
 use mathlib.Core.Bool.{Bool, true, false, cond, _&&_, _||_, or-false, or-true, and-eq-true-iff, and-true, and-false}
-use mathlib.Core.List.{List, [], _∷_, _++_, append-assoc}
+use mathlib.Core.List.{List, [], _∷_, _++_}
 use mathlib.Core.Logic.{_⊎_, inl, inr, ⊎-elim}
 use Prim.Native.Nat.{ℕ, zero, suc, _+_, _*_, _-_, _/_, _%_, _≤_, _<_, min, max}
 use native.Mathlib.Nat.{add-zero, zero-add, zero-mul, add-mul, mul-le-mul-right, suc-mul, div-add-mod', mod-lt}
 use native.Mathlib.Omega.{arith}
 use lib.Dec.{leb, ltb, eqb}
-use lib.ListN.{length, take, drop, getD, length-append, length-set, length-take, length-drop, List·getD-append}
-use lib.Seq.{length-take-le, getD-take, getD-drop, getD-append-add, ext-getD}
+use lib.ListN.{length, getD, length-set, length-take, length-drop}
+use lib.Seq.{ext-getD}
 use borrow.Author.Tests.{lt-ltb, le-ltb, ltb-true, ltb-false, leb-true, leb-false, eqb-true, eqb-false, eq-eqb, ne-eqb}
 use Rattle.rules.specs.Bytes.{byteAt, part, laid, tabulate}
 use Rattle.rules.specs.View.{placeOf, has, noEntry, logicals, hasPage, entryOf, pageOf, revisionByte, ownPages, shownByte, sessionByte, sessionBytes, pagesFrom, pagesIn, pagesShared}
@@ -16,38 +16,9 @@ use Rattle.rules.specs.Session.{Held, withPage, firstCopy, touched, touc
 use Rattle.rules.specs.declared.Setting.{Setting}
 use Rattle.rules.specs.declared.Entry.{Entry}
 use Rattle.rules.specs.declared.State.{State}
-use Rattle.rules.proofs.Bytes.{length-laid, byte-part, length-tabulate, byte-tabulate}
+use Rattle.rules.proofs.Bytes.{length-laid, byte-part, length-tabulate, byte-tabulate, byte-below, byte-on, byte-above, length-over}
 use Rattle.rules.proofs.Entries.{length-logicals, either, order, place-value, place-within, place-append, place-snoc, has-cons, has-snoc}
 use Rattle.rules.proofs.Range.{own-length, own-more, touching-grows, touching-new, pages-order, pages-some}
-
--- ---- one byte where bytes are laid over others, and where they reach past the end too
-
-module _ (xs : List ℕ) (at : ℕ) (ys : List ℕ) (starts : at ≤ length xs) where
-  ahead-long : length (take at xs ++ ys) ≡ at + length ys
-  ahead-long = rw (length-append, length-take-le at xs starts)
-
-  pub length-over : length (laid xs at ys) ≡ max (length xs) (at + length ys)
-  unfolding laid
-  length-over = rw (length-append, ahead-long, length-drop) (omega arith)
-
-  pub byte-below : (i : ℕ) → i < at → getD (laid xs at ys) i 0 ≡ getD xs i 0
-  unfolding laid
-  byte-below i l =
-      rw append-assoc
-      (List·getD-append (take at xs) (ys ++ drop (at + length ys) xs) 0 i (rw (length-take-le at xs starts) l) ∙ getD-take at xs i 0 l)
-
-  pub byte-on : (j : ℕ) → j < length ys → getD (laid xs at ys) (at + j) 0 ≡ getD ys j 0
-  unfolding laid
-  byte-on j l =
-      rw append-assoc
-      (rw (length-take-le at xs starts) at (getD-append-add (take at xs) (ys ++ drop (at + length ys) xs) j 0)
-      ∙ List·getD-append ys (drop (at + length ys) xs) 0 j l)
-
-  pub byte-above : (i : ℕ) → at + length ys ≤ i → getD (laid xs at ys) i 0 ≡ getD xs i 0
-  unfolding laid
-  byte-above i l =
-      let e : at + length ys + (i - (at + length ys)) ≡ i = omega arith in
-      rw (ahead-long, getD-drop, e) at (getD-append-add (take at xs ++ ys) (drop (at + length ys) xs) (i - (at + length ys)) 0)
 
 -- ---- the byte that is shown
 

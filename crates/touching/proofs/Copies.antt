@@ -19,13 +19,13 @@ use Rattle.rules.specs.declared.State.{State}
 use Rattle.rules.proofs.Bytes.{
   laid-then,
   length-laid,
-  byte-laid-below,
   length-tabulate,
   tabulate-append,
   tabulate-same,
   part-tabulate,
   tabulate-zeros,
   laid-middle,
+  byte-below,
 }
 use Rattle.rules.proofs.Entries.{either, entry-entries, length-logicals-entries, entries-laid}
 use Rattle.rules.proofs.Range.{page-at, page-there, page-missing, entry-there, own-length, touching-new}
@@ -98,7 +98,7 @@ module _ (o : List ℕ) {h : List ℕ} {x : Index} {to p : ℕ} (a size : ℕ) (
   page-same ys fits j l = ⊎-elim
       (λ (t : hasPage index a ≡ true).
       let k : placeOf a (logicals index) < x .entries = rw (length-logicals-entries (x .form) h (x .at) (x .entries)) at (ltb-true (placeOf a (logicals index)) (length (logicals index)) t) in
-      rw t (byte-laid-below h to ys fits (entryOf index a .physical + j) (omega (arith, w .stored (placeOf a (logicals index)) k))))
+      rw t (byte-below h to ys (omega arith) (entryOf index a .physical + j) (omega (arith, w .stored (placeOf a (logicals index)) k))))
       (λ (t : hasPage index a ≡ false). rw t)
       (either (hasPage index a))
 

@@ -16,7 +16,7 @@ use Rattle.rules.specs.declared.Setting.{Setting}
 use Rattle.rules.specs.declared.Index.{Index}
 use Rattle.rules.specs.declared.Entry.{Entry}
 use Rattle.rules.specs.declared.State.{State}
-use Rattle.rules.proofs.Bytes.{part-add, length-part, laid-nothing, length-laid, sets-laid, laid-then, length-tabulate}
+use Rattle.rules.proofs.Bytes.{part-add, length-part, laid-nothing, length-laid, sets-laid, laid-then, length-tabulate, slice-part}
 use Rattle.rules.proofs.Entries.{entries-laid, touching-snoc, has-touching}
 use Rattle.rules.proofs.Range.{
   page-multiple,
@@ -312,9 +312,6 @@ module _ (o : List ℕ) (s : Setting) (x : Index) (index : List Entry) (offset :
         let b : (k + j) * p < suc m * p = omega (arith, add-mul k j p, suc-mul m p, w .spot, starts, covers) in
         omega (arith, lt-of-mul-lt-mul-right p b)
 
-    run-size : a - offset + j * s .form .page - (a - offset) ≡ j * s .form .page
-    run-size = omega arith
-
     all-stored : Writing m start (runHeld h st a j) (a + j * s .form .page) (k + j)
     all-stored = writing-run w short starts j within covers new
 
@@ -324,7 +321,7 @@ module _ (o : List ℕ) (s : Setting) (x : Index) (index : List Entry) (offset :
       in-pages = within;
       in-bytes = covers;
       in-session = all-stored .ready .few;
-      in-history = rw (run-size, length-part bytes (a - offset) (j * s .form .page) covers) (omega (arith, writing-past all-stored, w .long, add-mul (st .n) j (s .form .page)));
+      in-history = rw (slice-part bytes (a - offset) (j * s .form .page), length-part bytes (a - offset) (j * s .form .page) covers) (omega (arith, writing-past all-stored, w .long, add-mul (st .n) j (s .form .page)));
     }
 
     pub writing-stored : {y z : List ℕ}
@@ -334,7 +331,7 @@ module _ (o : List ℕ) (s : Setting) (x : Index) (index : List Entry) (offset :
         (record { history = y; session = record { end = st .end; count = st .count; parent = st .parent; size = st .size; n = st .n + j; pages = z } })
         (a + j * s .form .page)
         (k + j)
-    writing-stored e f = rw (e, f, run-size) all-stored
+    writing-stored e f = rw (e, f, slice-part bytes (a - offset) (j * s .form .page)) all-stored
 
   pub writing-end : {m : ℕ} {start now : Held} {a k : ℕ} → Writing m start now a k → m ≤ k
       → now ≡ writtenPages o s index offset bytes (pagesShared (s .form .page) offset (length bytes)) start
