@@ -1,4 +1,6 @@
 // Browsing: where the record of a revision stands, and its index entries, one at a time.
+#![tactic(auto)]
+
 ghost use Rattle.std.specs.Prelude.{◌≡◌, ◌+◌, ◌≤◌, length};
 ghost use Rattle.rules.specs.Calls.{browse, step_end, browse_step, browse_next};
 ghost use Rattle.browsing.specs.Lent.{PartAt};

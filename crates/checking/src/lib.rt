@@ -1,4 +1,6 @@
 // The whole check: the first fault of a history, revision after revision and entry after entry.
+#![tactic(auto)]
+
 ghost use Rattle.std.specs.Prelude.{◌≡◌};
 ghost use Rattle.rules.specs.Calls.{check_revisions, check};
 ghost use Rattle.whole.specs.Sound.{Sound};

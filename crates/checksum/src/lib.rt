@@ -3,6 +3,8 @@
 // The words are read low byte first, as the machine reads them, and the bytes of the two sums are put in order once, at the end. The
 // totals of a block are exact, so no turn of a loop divides. Eight lanes of 32 bits each sum every eighth word, so that the machine adds
 // several words at a time.
+#![tactic(auto)]
+
 ghost use Rattle.std.specs.Prelude.{◌≡◌, ◌+◌, ◌*◌, ◌%◌, ◌^◌, ◌≤◌, ◌<◌, length};
 ghost use Rattle.rules.specs.Bytes.{part};
 ghost use Rattle.rules.specs.Checksum.{folded, checksum};
@@ -57,7 +59,7 @@ fn word(bytes: &[u8], at: usize) -> u32
 }
 
 // The first and the second total of a lane's words.
-#[derive(Drop)]
+#[derive(Clone, Copy)]
 pub struct Lane(pub u32, pub u32);
 
 // A lane that has one word more, that at an address.
@@ -91,7 +93,7 @@ fn weighted(x1: u32, x2: u32, x3: u32, x4: u32, x5: u32, x6: u32, x7: u32) -> u6
 }
 
 // Two exact totals, the first and the second.
-#[derive(Drop)]
+#[derive(Clone, Copy)]
 pub struct Totals {
     pub first: u64,
     pub second: u64,
@@ -154,7 +156,7 @@ fn rows_length(left: usize) -> usize
 }
 
 // How many bytes were passed, and the two exact totals after them.
-#[derive(Drop)]
+#[derive(Clone, Copy)]
 pub struct Passed {
     pub at: usize,
     pub first: u64,

@@ -1,4 +1,6 @@
 // A commit: its rows, then the record, the new whole history and, last, the header.
+#![tactic(auto)]
+
 ghost use Rattle.std.specs.Prelude.{◌≡◌, ◌++◌, ◌+◌, ◌≤◌, ◌<◌, length};
 ghost use Rattle.rules.specs.Bytes.{laid};
 ghost use Rattle.rules.specs.Layout.{
@@ -81,7 +83,7 @@ fn no_room(room: usize, s: Setting, r: Record) -> bool
 
 // A commit that rows have judged: their number and, where it is 0, what the history says of itself, the parent's record and the one to
 // be stored.
-#[derive(Drop)]
+#[derive(Clone, Copy)]
 pub struct Judged {
     pub number: u64,
     pub setting: Setting,

@@ -1,4 +1,6 @@
 // The worked examples of document 01, run through the compiled store: each line is what a call answered.
+#![tactic(auto)]
+
 ghost use Rattle.std.specs.Prelude.{◌≤◌, length};
 
 use libc::STDOUT_FILENO;

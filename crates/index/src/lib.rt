@@ -1,5 +1,7 @@
 // The index of a revision, where it stands in the history: its entries read and stored, and the places of pages in it and among a
 // session's pages.
+#![tactic(auto)]
+
 ghost use Rattle.std.specs.Prelude.{◌≡◌, true, false, ◌+◌, ◌≤◌, ◌<◌, length, take, get_or};
 ghost use Rattle.rules.specs.Bytes.{laid};
 ghost use Rattle.rules.specs.Layout.{

@@ -1,5 +1,7 @@
 // The list program: reads a history from standard input and writes its list text. One byte more than a history may have is read, so
 // that longer input is noticed and refused.
+#![tactic(auto)]
+
 use libc::{STDIN_FILENO, STDOUT_FILENO};
 
 fn main() {

@@ -1,4 +1,6 @@
 // The list's text: a line for the history and one for each of its records, or the first fault.
+#![tactic(auto)]
+
 ghost use Rattle.std.specs.Prelude.{◌≡◌, List, ◌++◌, ℕ, ◌+◌, ◌≤◌, length};
 ghost use Rattle.rules.specs.Layout.{name_limit};
 ghost use Rattle.rules.specs.Calls.{records_rows};
@@ -159,7 +161,7 @@ fn put_record_line(out: &mut [u8], at: usize, history: &[u8], form: Form, r: Rec
 // ---- Rows
 
 // Records that rows 7 and 8 have judged: their number and, where it is 0, how long the records' lines are.
-#[derive(Drop)]
+#[derive(Clone, Copy)]
 struct Judged {
     number: u64,
     length: usize,

@@ -1,4 +1,6 @@
 // Looking up a page: it is handed back as a part of the original or of the history, and not as a copy.
+#![tactic(auto)]
+
 ghost use Rattle.std.specs.Prelude.{◌≡◌, true, cond, ◌+◌, ◌≤◌, eqb};
 ghost use Rattle.rules.specs.Layout.{page_allowed, limit};
 ghost use Rattle.rules.specs.Rows.{look_up_outside};

@@ -1,4 +1,6 @@
 // The numbers and signatures that a history is made of, read from bytes and laid over them.
+#![tactic(auto)]
+
 ghost use Rattle.std.specs.Prelude.{◌≡◌, true, ◌+◌, ◌-◌, ◌%◌, ◌^◌, ◌≤◌, ◌<◌, min, max, eqb, length};
 ghost use Rattle.rules.specs.Bytes.{part, number_at, number_bytes, laid, same};
 ghost use Rattle.rules.specs.Layout.{page_allowed};

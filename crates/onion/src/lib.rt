@@ -1,5 +1,7 @@
 // The store for C: each export lends its arguments on to the public store. A slice is a pointer and a length, structs go by value
 // as include/onion.h lays them out.
+#![tactic(auto)]
+
 ghost use Rattle.std.specs.Prelude.{◌≡◌};
 ghost use Rattle.rules.specs.Checksum.{checksum};
 ghost use Rattle.rules.specs.Layout.{limit};

@@ -1,4 +1,6 @@
 // Creation, opening for writing and release.
+#![tactic(auto)]
+
 ghost use Rattle.std.specs.Prelude.{◌≡◌, ◌≤◌, length};
 ghost use Rattle.rules.specs.Layout.{header_width, setting_of, with_lock};
 ghost use Rattle.rules.specs.Session.{created_form, created_setting, opened, released};

@@ -1,4 +1,6 @@
 // What the parts of a history have in common: how whole history and record start, and the checksums in all of them.
+#![tactic(auto)]
+
 ghost use Rattle.std.specs.Prelude.{◌≡◌, ◌&&◌, ◌+◌, ◌*◌, ◌-◌, ◌≤◌, length};
 ghost use Rattle.rules.specs.Bytes.{part, number_bytes, laid, same};
 ghost use Rattle.rules.specs.Checksum.{checksum};

@@ -1,5 +1,7 @@
 // A browsing reader keeps the lent record, its place in it and the number that its browsing was refused with. The functions over it
 // are few and thin: each takes the struct apart and leaves the work to `browsing`.
+#![tactic(auto)]
+
 ghost use Rattle.std.specs.Prelude.{◌≡◌};
 ghost use Rattle.rules.specs.Calls.{browse, browse_step, browse_next};
 ghost use Rattle.browsing.specs.Lent.{PartAt};
@@ -7,7 +9,7 @@ ghost use Rattle.browsing.specs.Lent.{PartAt};
 use rules::Step;
 
 // The number is 0 where nothing was refused.
-#[derive(Drop)]
+#[derive(Clone, Copy)]
 pub struct Reader<'a> {
     pub bytes: &'a [u8],
     pub place: u64,

@@ -1,4 +1,6 @@
 // Reading a revision. A revision is read as a session that has touched no page, so what both have in common stands here.
+#![tactic(auto)]
+
 ghost use Rattle.std.specs.Prelude.{◌≡◌, ◌+◌, ◌≤◌, length, take};
 ghost use Rattle.rules.specs.Layout.{limit, entries_in};
 ghost use Rattle.rules.specs.View.{pages_shared};

@@ -1,4 +1,6 @@
 // A revision's record: its fields read and stored, rows 7 and 8, and what stands of a record that has passed them.
+#![tactic(auto)]
+
 ghost use Rattle.std.specs.Prelude.{◌≡◌, true, false, ◌&&◌, List, ℕ, ◌+◌, ◌≤◌, ◌<◌, length};
 ghost use Rattle.rules.specs.Bytes.{part, laid};
 ghost use Rattle.rules.specs.Layout.{
@@ -261,7 +263,7 @@ fn record_sum_wrong(history: &[u8], form: Form, r: Record) -> bool
 // ---- Both rows
 
 // A record that rows 7 and 8 have judged: their number and, where it is 0, the record.
-#[derive(Drop)]
+#[derive(Clone, Copy)]
 pub struct Judged {
     pub number: u64,
     pub record: Record,

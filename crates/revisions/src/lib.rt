@@ -1,4 +1,6 @@
 // The revision that a caller asks for: row 6, which revision a number means, and the rows up to those of its record.
+#![tactic(auto)]
+
 ghost use Rattle.std.specs.Prelude.{◌≡◌};
 ghost use Rattle.rules.specs.Rows.{revision_unknown};
 ghost use Rattle.rules.specs.Calls.{row, ◌then◌, record_rows, asked, revision_rows, browse_rows};
@@ -28,7 +30,7 @@ pub fn asked(s: Setting, revision: u64) -> u64
 }
 
 // A revision that rows have judged: their number and, where it is 0, what the history says of itself and the revision's record.
-#[derive(Drop)]
+#[derive(Clone, Copy)]
 pub struct Judged {
     pub number: u64,
     pub setting: Setting,

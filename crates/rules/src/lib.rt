@@ -1,15 +1,16 @@
 // The plain data that document 01 speaks of. What it means stands in specs/, one file a section of the paper. Those marked for C
 // are handed over by value as they stand.
+#![tactic(auto)]
 
 // The form of a history: what its ends, widths and places go by.
-#[derive(Drop)]
+#[derive(Clone, Copy)]
 pub struct Form {
     pub page: u64,
 }
 
 // What a history says of itself: its form, the original's length, the whole history's address and size, how many revisions
 // stand, whether the write lock is set and whether branching is allowed. It is read once and handed on.
-#[derive(Drop)]
+#[derive(Clone, Copy)]
 pub struct Setting {
     pub form: Form,
     pub original: u64,
@@ -22,7 +23,7 @@ pub struct Setting {
 
 // What a revision's record says of itself: where it stands and its size, its revision and parent, the revision's logical
 // size, the page size, how many index entries it has, and the sizes of name and comment.
-#[derive(Drop)]
+#[derive(Clone, Copy)]
 pub struct Record {
     pub address: u64,
     pub size: u64,
@@ -36,7 +37,7 @@ pub struct Record {
 }
 
 // An index entry: a page's logical and physical address, and its checksum.
-#[derive(Drop)]
+#[derive(Clone, Copy)]
 pub struct Entry {
     pub logical: u64,
     pub physical: u64,
@@ -44,7 +45,7 @@ pub struct Entry {
 }
 
 // Where an index stands in a history of a form, and how many entries it has.
-#[derive(Drop)]
+#[derive(Clone, Copy)]
 pub struct Index {
     pub form: Form,
     pub at: usize,
@@ -54,7 +55,7 @@ pub struct Index {
 // A session's state: the committed end and the count that it was opened at, its parent, its logical size, and the n pages
 // that it touched, in the order of first touch. Page i of them lies i page sizes after the end. The slots past n are unused.
 #[repr(C)]
-#[derive(Drop)]
+#[derive(Clone, Copy)]
 pub struct State {
     pub end: u64,
     pub count: u64,
@@ -66,7 +67,7 @@ pub struct State {
 
 // A page as a part of the original (source 0) or of the history (source 1). All zeros but the number where it is refused.
 #[repr(C)]
-#[derive(Drop)]
+#[derive(Clone, Copy)]
 pub struct Found {
     pub number: u64,
     pub source: u64,
@@ -76,7 +77,7 @@ pub struct Found {
 
 // The first fault of a history, with its revision and its entry; 0 where none is named.
 #[repr(C)]
-#[derive(Drop)]
+#[derive(Clone, Copy)]
 pub struct Checked {
     pub number: u64,
     pub revision: u64,
@@ -85,7 +86,7 @@ pub struct Checked {
 
 // A part of the history: where it starts, and its length.
 #[repr(C)]
-#[derive(Drop)]
+#[derive(Clone, Copy)]
 pub struct Part {
     pub offset: u64,
     pub length: u64,
@@ -94,7 +95,7 @@ pub struct Part {
 // What a history tells its user of itself: the page size, the original's length, how many revisions stand, the committed end, and
 // whether the lock is set and branching allowed. All zeros but the number where it is refused.
 #[repr(C)]
-#[derive(Drop)]
+#[derive(Clone, Copy)]
 pub struct SettingTold {
     pub number: u64,
     pub page: u64,
@@ -108,7 +109,7 @@ pub struct SettingTold {
 // What a revision's record tells: the revision, its parent, its logical size, the user ID, how many index entries it has, and where its
 // time, name and comment stand. Of the original only its length; all zeros but the number where it is refused.
 #[repr(C)]
-#[derive(Drop)]
+#[derive(Clone, Copy)]
 pub struct RecordTold {
     pub number: u64,
     pub revision: u64,
@@ -123,7 +124,7 @@ pub struct RecordTold {
 
 // Where a revision's record stands in the history: of length 0 for revision 0 and where it is refused.
 #[repr(C)]
-#[derive(Drop)]
+#[derive(Clone, Copy)]
 pub struct Browsed {
     pub number: u64,
     pub offset: u64,
@@ -132,7 +133,7 @@ pub struct Browsed {
 
 // One step of browsing: kind 0 an entry, 1 the end, 7 refused. All zeros but the kind unless it is an entry.
 #[repr(C)]
-#[derive(Drop)]
+#[derive(Clone, Copy)]
 pub struct Step {
     pub kind: u64,
     pub logical: u64,

@@ -1,4 +1,6 @@
 // Runs of bytes, laid over others.
+#![tactic(auto)]
+
 ghost use Rattle.std.specs.Prelude.{◌≡◌, ◌+◌, ◌≤◌, length, replicate};
 ghost use Rattle.rules.specs.Bytes.{part, laid};
 

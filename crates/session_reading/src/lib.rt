@@ -1,4 +1,6 @@
 // Reading a session: its own pages first, then those of its parent.
+#![tactic(auto)]
+
 ghost use Rattle.std.specs.Prelude.{◌≡◌};
 ghost use Rattle.rules.specs.Calls.{Outcome, session_read};
 

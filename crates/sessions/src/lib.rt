@@ -1,4 +1,6 @@
 // A session's rows: 13, then 7 and 8 of its parent, then the last condition of 13; and the rows ahead of them.
+#![tactic(auto)]
+
 ghost use Rattle.std.specs.Prelude.{◌≡◌, true, ◌-◌, ◌≤◌, ◌<◌, length, take, get_or};
 ghost use Rattle.rules.specs.Bytes.{part};
 ghost use Rattle.rules.specs.Layout.{page_allowed};
@@ -14,7 +16,7 @@ use rules::{Record, Setting, State};
 
 // What a session call answers: its number, and the session handed back.
 #[repr(C)]
-#[derive(Drop)]
+#[derive(Clone, Copy)]
 pub struct Answered {
     pub number: u64,
     pub session: State,
@@ -98,7 +100,7 @@ fn session_wrong(history: &[u8], s: Setting, st: State) -> bool
 // ---- A session's rows
 
 // A session that rows have judged: their number and, where it is 0, what the history says of itself and the parent's record.
-#[derive(Drop)]
+#[derive(Clone, Copy)]
 pub struct Judged {
     pub number: u64,
     pub setting: Setting,

@@ -1,4 +1,6 @@
 // A session as its user holds it: a value that each call takes and hands back.
+#![tactic(auto)]
+
 ghost use Rattle.std.specs.Prelude.{◌≡◌};
 ghost use Rattle.rules.specs.Calls.{Outcome, open_for_writing, session_read, write, commit, release};
 
@@ -7,14 +9,14 @@ use sessions::Answered;
 
 // Any numbers whatever may stand in a session; row 13 tells whether it is one of the history.
 #[repr(C)]
-#[derive(Drop)]
+#[derive(Clone, Copy)]
 pub struct Session {
     pub state: State,
 }
 
 // What a session call answers: its number, and the session handed back.
 #[repr(C)]
-#[derive(Drop)]
+#[derive(Clone, Copy)]
 pub struct Answer {
     pub number: u64,
     pub session: Session,

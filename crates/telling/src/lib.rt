@@ -1,4 +1,6 @@
 // What a history tells its user: what it says of itself, and what a revision's record says.
+#![tactic(auto)]
+
 ghost use Rattle.std.specs.Prelude.{◌≡◌, ◌+◌, ◌≤◌, length};
 ghost use Rattle.rules.specs.Layout.{limit, entry_limit, front_width};
 ghost use Rattle.rules.specs.Telling.{setting_untold, tell_setting, nowhere, record_told, tell_record};

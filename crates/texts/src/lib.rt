@@ -1,4 +1,6 @@
 // Times, names and comments: whether bytes have the form that the layout gives them.
+#![tactic(auto)]
+
 ghost use Rattle.std.specs.Prelude.{◌≡◌, ◌+◌, ◌-◌, ◌≤◌, ◌<◌, length};
 ghost use Rattle.rules.specs.Bytes.{part};
 ghost use Rattle.rules.specs.Layout.{within, digits, two_digits, time_right, text_right, name_right, comment_right};

@@ -1,4 +1,6 @@
 // The pages of a write: the bytes are laid over them, and what is left of a page is copied with them at its first touch.
+#![tactic(auto)]
+
 ghost use Rattle.std.specs.Prelude.{◌≡◌, false, ◌+◌, ◌*◌, ◌≤◌, ◌<◌, length, take};
 ghost use Rattle.rules.specs.Bytes.{laid, tabulate};
 ghost use Rattle.rules.specs.Layout.{limit, entry_limit, touch_limit, entries_width, entries_in};
@@ -14,7 +16,7 @@ use rules::{Index, Setting, State};
 
 // A page as a session shows it before its first touch: the index that may have it, its address, and the session's size, past which
 // it is zero.
-#[derive(Drop)]
+#[derive(Clone, Copy)]
 struct Page {
     x: Index,
     address: usize,
@@ -51,7 +53,7 @@ fn put_kept(history: &mut [u8], original: &[u8], p: Page, to: usize, from: usize
 }
 
 // The bytes of a write that fall into a page: from the one to the other, behind so many of the page.
-#[derive(Drop)]
+#[derive(Clone, Copy)]
 struct Run {
     skip: usize,
     from: usize,
@@ -227,7 +229,7 @@ pub fn write_pages(
 }
 
 // How many pages and entries a write would leave.
-#[derive(Drop)]
+#[derive(Clone, Copy)]
 pub struct Counts {
     pub touched: usize,
     pub merged: usize,

@@ -1,5 +1,7 @@
 // Prints the checksum of each test vector, a line each: the vector's name, and the checksum as eight hexadecimal digits. The program
 // host/vectors computes the same lines by itself, from the document's words.
+#![tactic(auto)]
+
 ghost use Rattle.std.specs.Prelude.{◌<◌, ◌≤◌, length};
 
 use libc::STDOUT_FILENO;

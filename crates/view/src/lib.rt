@@ -1,5 +1,7 @@
 // The bytes that a revision or a session shows, and whether the stored pages among them are whole. A revision is read as a session
 // that has touched no page.
+#![tactic(auto)]
+
 ghost use Rattle.std.specs.Prelude.{◌≡◌, not, ◌&&◌, ◌+◌, ◌*◌, ◌%◌, ◌^◌, ◌≤◌, ◌<◌, length, take, get_or};
 ghost use Rattle.rules.specs.Bytes.{part, laid, tabulate};
 ghost use Rattle.rules.specs.Layout.{limit, entries_width, entries_in};
@@ -12,7 +14,7 @@ ghost use Rattle.view.specs.Places.{NextEntry, own_over};
 use rules::{Entry, Index};
 
 // Where things stand: the index of a revision, and behind an end the pages of a session's own.
-#[derive(Drop)]
+#[derive(Clone, Copy)]
 pub struct View {
     pub index: Index,
     pub end: usize,

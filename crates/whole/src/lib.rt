@@ -1,5 +1,7 @@
 // The whole history and its locations: row 5, what a history says of itself once rows 1, 2, 3 and 5 have passed, row 4 beside them,
 // and the bytes of a whole history.
+#![tactic(auto)]
+
 ghost use Rattle.std.specs.Prelude.{◌≡◌, true, false, [], ◌+◌, ◌≤◌, ◌<◌, length};
 ghost use Rattle.rules.specs.Bytes.{laid};
 ghost use Rattle.rules.specs.Layout.{
@@ -30,7 +32,7 @@ const FRONT: usize = 16;
 // ---- Row 5
 
 // A history that rows have judged: their number and, where it is 0, what the history says of itself.
-#[derive(Drop)]
+#[derive(Clone, Copy)]
 pub struct Judged {
     pub number: u64,
     pub setting: Setting,
@@ -144,7 +146,7 @@ pub fn judge_both(original: &[u8], history: &[u8]) -> Judged
 // ---- Locations
 
 // Where a record stands, and its size.
-#[derive(Drop)]
+#[derive(Clone, Copy)]
 pub struct Location {
     pub address: u64,
     pub size: u64,

@@ -1,4 +1,6 @@
 // A write: its rows, then its pages and the session's new size.
+#![tactic(auto)]
+
 ghost use Rattle.std.specs.Prelude.{◌≡◌, ◌+◌, ◌≤◌, length};
 ghost use Rattle.rules.specs.Layout.{limit, index_of};
 ghost use Rattle.rules.specs.View.{own_pages, own_address, pages_shared};

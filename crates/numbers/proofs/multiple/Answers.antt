@@ -5,14 +5,10 @@ use native.Mathlib.Omega.{arith}
 use lib.Dec.{eqb}
 use Rattle.rules.proofs.Headers.{page-least}
 use Rattle.numbers.proofs.Page.{page_mask}
-use Rattle.numbers.proofs.multiple.Statement.{statement}
-use Rattle.numbers.proofs.multiple.Tie as tie
+use Rattle.numbers.proofs.multiple.Goals as goal
 
-sub-result : tie.Need-overflow-sub-result
-sub-result c = omega (arith, page-least c.args.page c.requires)
+pub overflow_sub-result : goal.overflow_sub-result
+overflow_sub-result c = omega (arith, page-least c.args.page c.requires)
 
-returns : tie.Need-returns
+pub returns : goal.returns
 returns c = ap (λ (k : ℕ). eqb k 0) (page_mask c.args.page c.requires c.args.x)
-
-pub multiple-spec : {M : Type 1} → statement M
-multiple-spec = tie.close (tie.spec sub-result returns)

@@ -1,0 +1,9 @@
+-- A number is put by its two halves.
+use borrow.Author.Rules.{rules}
+use Rattle.rules.proofs.Bytes.{put_twice}
+use Rattle.numbers.proofs.put_u32.Goals as goal
+
+pub returns : goal.returns
+returns c =
+    let d = c in
+    put_twice 2 2 _ _ _ _ _ (search rules) d.put_u16.ensures d.put_u16-2.ensures
