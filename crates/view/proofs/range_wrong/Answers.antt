@@ -1,0 +1,10 @@
+-- The pages that the range shares a byte with lie one behind the other from the first byte's on.
+use Rattle.rules.proofs.Range.{page-multiple}
+use Rattle.view.proofs.Pages.{range-room}
+use Rattle.view.proofs.range_wrong.Goals as goal
+
+pub pages_wrong-requires : goal.pages_wrong-requires
+pages_wrong-requires c =
+    let s = c in
+    let w = s.requires.0 in
+    (w, s.requires.1, range-room _ s.args.at s.args.n c.pages_in-m.ensures s.requires.2 w.least w.most, page-multiple _ s.args.at)
