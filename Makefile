@@ -2,9 +2,9 @@
 # link to the name with the major version, by which a program that was linked with it asks for it.
 .PHONY: lib
 lib:
-	rt staticlib onion
+	cd crates/onion && rt lib
 	mkdir -p target/lib
-	cp target/staticlib/libonion.a target/lib/libonion.a
+	cp crates/onion/out/libonion.a target/lib/libonion.a
 	gcc -std=c99 -Wall -Wextra -Wconversion -O2 -fPIC -I include -c -o target/lib/words.o host/words/words.c
 	ar r target/lib/libonion.a target/lib/words.o
 	gcc -shared -Wl,-soname,libonion.so.1 -o target/lib/libonion.so.1 -Wl,--whole-archive target/lib/libonion.a -Wl,--no-whole-archive

@@ -1,18 +1,16 @@
 //! Crates that a line of crates.txt gives to a crate whose files name none of them.
 
-use crate::source::{Finding, Source};
-use crate::tokens::in_code_name;
+use crate::source::{paths, Finding, Source};
 
 pub const PATH: &str = "crates.txt";
 
-/// The linker needs it, whether or not the code names it.
-const LINKED: &str = "libc";
-
-/// A line's number, its crate, and the crates that it rests on.
+/// A line's number, its crate, and the crates that it rests on. Between the crate and the colon may stand what it is built as.
 pub fn lines(text: &str) -> Vec<(usize, &str, Vec<&str>)> {
     let parsed = text.lines().enumerate().filter_map(|(at, line)| {
-        let (name, others) = line.split('#').next()?.split_once(':')?;
-        Some((at + 1, name.trim(), others.split_whitespace().collect()))
+        let line = line.split('#').next()?;
+        let (crate_, others) = line.split_once(':').unwrap_or((line, ""));
+        let name = crate_.split_whitespace().next()?;
+        Some((at + 1, name, others.split_whitespace().collect()))
     });
     parsed.collect()
 }
@@ -22,7 +20,7 @@ pub fn check(text: &str, sources: &[Source]) -> Vec<Finding> {
     for (line, name, others) in lines(text) {
         let own = || sources.iter().filter(|source| source.owner() == name);
         for other in others {
-            if other != LINKED && !own().any(|source| names_crate(source, other)) {
+            if !own().any(|source| names_crate(source, other)) {
                 findings.push(Finding {
                     path: PATH.to_string(),
                     line,
@@ -34,19 +32,17 @@ pub fn check(text: &str, sources: &[Source]) -> Vec<Finding> {
     findings
 }
 
-/// As `other::` in code, or as `Rattle·other` or `Rattle·other·specs` at the head of a path of antt.
+/// As `other::` in code, or as `Rattle.other` at the head of a path of antt.
 fn names_crate(source: &Source, other: &str) -> bool {
     let heads = |path: &str| {
-        let rest = path
-            .strip_prefix("Rattle·")
-            .and_then(|p| p.strip_prefix(other));
-        rest.map_or(false, |rest| !rest.starts_with(in_code_name))
+        let mut parts = path.split('.');
+        parts.next() == Some("Rattle") && parts.next() == Some(other)
     };
     let in_code = source
         .code
         .windows(3)
         .any(|three| three[0].text == other && three[1].text == ":" && three[2].text == ":");
-    let in_antt = source.antt.iter().any(|token| heads(&token.text));
+    let in_antt = paths(&source.antt).any(|path| heads(&path));
     let brought = source.uses.iter().any(|import| match import.code {
         true => import.path.split("::").next() == Some(other),
         false => heads(&import.path),
@@ -63,7 +59,7 @@ mod tests {
             Source::new("crates/a/src/lib.rt", "use b::B;\nfn f() { c::g() }\n"),
             Source::new(
                 "crates/a/specs/A.antt",
-                "use Rattle·d.specs.D.{x}\ny : x\ny = Rattle·e.specs.E.z\n",
+                "use Rattle.d.specs.D.{x}\ny : x\ny = Rattle.e.specs.E.z\n",
             ),
             Source::new("crates/h/src/lib.rt", "fn f() { a::f() }\n"),
         ];
@@ -73,7 +69,7 @@ mod tests {
 
     #[test]
     fn named_crates() {
-        assert_eq!(found("# all\na: b c d e libc # f\nh: a\n"), []);
+        assert_eq!(found("# all\na: b c d e # f\nh staticlib: a\nz\n"), []);
     }
 
     #[test]
@@ -82,15 +78,27 @@ mod tests {
             (1, "`h` does not name `b`".to_string()),
             (2, "`a` does not name `specs`".to_string()),
             (2, "`a` does not name `f`".to_string()),
+            (2, "`a` does not name `libc`".to_string()),
         ];
-        assert_eq!(found("h: a b\na: b specs f\n"), expected);
+        assert_eq!(found("h staticlib: a b\na: b specs f libc\n"), expected);
+    }
+
+    #[test]
+    fn what_a_line_says() {
+        let text = "\n# all\na: b c\nh staticlib opt_level=1: a # b\nz\n";
+        let expected = [
+            (3, "a", vec!["b", "c"]),
+            (4, "h", vec!["a"]),
+            (5, "z", vec![]),
+        ];
+        assert_eq!(lines(text), expected);
     }
 
     #[test]
     fn whole_names() {
         let source = Source::new(
             "crates/a/specs/A.antt",
-            "use Rattle·session_reading·specs.specs.S.{x}\n",
+            "use Rattle.session_reading.specs.S.{x}\n",
         );
         assert!(names_crate(&source, "session_reading"));
         assert!(!names_crate(&source, "session"));

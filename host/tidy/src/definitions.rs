@@ -1,6 +1,6 @@
 //! The definitions of an antt file, found by its layout.
 
-use crate::tokens::Token;
+use crate::tokens::{bare, Token};
 use std::ops::Range;
 
 #[derive(Debug, PartialEq, Eq)]
@@ -14,7 +14,7 @@ pub struct Definition {
     pub scope: Range<usize>,
 }
 
-/// All definitions: those of the file, of its `module` blocks and behind `where`. The fields of a record are none.
+/// All definitions: those of the file, of its `module` and `mutual` blocks and behind `where`. The fields of a record are none.
 pub fn definitions(tokens: &[Token]) -> Vec<Definition> {
     let mut found = Vec::new();
     if !tokens.is_empty() {
@@ -40,7 +40,7 @@ fn block(
             .map(|at| at + 1..item.end)
             .filter(|body| !body.is_empty());
         let name = match text(head) {
-            "record" | "data" => head + 1,
+            "record" | "data" | "ruleset" => head + 1,
             _ => head,
         };
         if text(head) == "module" {
@@ -48,10 +48,15 @@ fn block(
             if let Some(body) = body {
                 block(tokens, body, scope, found);
             }
-        } else if name > head || text(head + 1) == ":" {
+        } else if text(head) == "mutual" {
+            open = None;
+            if head + 1 < item.end {
+                block(tokens, head + 1..item.end, scope, found);
+            }
+        } else if name > head || is_signature(&tokens[head..item.end]) {
             open = Some(found.len());
             found.push(Definition {
-                name: text(name).to_string(),
+                name: bare(text(name)).to_string(),
                 public: (item.start..head).any(|at| text(at) == "pub"),
                 line: tokens[item.start].line,
                 own: item,
@@ -69,7 +74,14 @@ fn block(
 }
 
 fn is_modifier(word: &str) -> bool {
-    matches!(word, "abbrev" | "unfoldable" | "pub")
+    matches!(word, "pattern" | "unfoldable" | "abbrev" | "axiom" | "pub")
+}
+
+/// A name with a colon behind it, or first the levels that it takes, as in `f {ℓ κ} : A`.
+fn is_signature(item: &[Token]) -> bool {
+    let text = |at: usize| item.get(at).map_or("", |token| token.text.as_str());
+    let levels = item.iter().take_while(|token| token.text != "}").count();
+    text(1) == ":" || text(1) == "{" && text(levels + 1) == ":"
 }
 
 /// The items of a block: each begins in the column in which the block begins. A bracket there closes what was opened before.
@@ -115,6 +127,16 @@ module _ (x : ℕ)
 
   pub last : ℕ
   last = y
+
+-- Of other forms.
+mutual
+  even {ℓ} : Type ℓ
+  even {x = a} = odd
+
+  pub odd : ℕ
+  odd = even
+
+pub ruleset laws = (last, law)
 ";
 
     #[test]
@@ -130,6 +152,9 @@ module _ (x : ℕ)
             ("law", false, 9),
             ("helper", false, 15),
             ("last", true, 18),
+            ("even", false, 23),
+            ("odd", true, 26),
+            ("laws", true, 29),
         ];
         assert_eq!(seen, expected);
     }
@@ -143,13 +168,16 @@ module _ (x : ℕ)
             .iter()
             .map(|d| (lines(&d.own), lines(&d.scope)))
             .collect();
-        let file = (1, 19);
+        let file = (1, 29);
         let expected = [
             ((1, 2), file),
             ((4, 5), file),
             ((9, 16), file),
             ((15, 16), (11, 16)),
             ((18, 19), file),
+            ((23, 24), file),
+            ((26, 27), file),
+            ((29, 29), file),
         ];
         assert_eq!(seen, expected);
     }

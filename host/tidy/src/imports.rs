@@ -33,7 +33,7 @@ mod tests {
 
     #[test]
     fn in_antt() {
-        let text = "use a.B.{b, c,\n  _+_, d as e}\nuse a.F as f\nuse a.G as g\n-- b\nx : ℕ\nx = c + g.b\n";
+        let text = "use a.B.{b, c,\n  ◌+◌, d as e}\nuse a.F as f\nuse a.G as g\n-- b\nx : ℕ\nx = c + g.b\n";
         let expected = [
             (1, "unused import `b`".to_string()),
             (2, "unused import `e`".to_string()),
@@ -50,10 +50,10 @@ mod tests {
 
     #[test]
     fn clauses_and_code_apart() {
-        let text = "use a::B;\nuse a::C;\nuse a::D;\nghost use d.E.{_+_, e};\nfn f(c: C) -> u8\n  ensures { λ r. ⌜ B e r ⌝ }\n{\n  D::d(c.x + 1)\n}\n";
+        let text = "use a::B;\nuse a::C;\nuse a::D;\nghost use d.E.{◌+◌, e};\nfn f(c: C) -> u8\n  ensures { B e result }\n{\n  D::d(c.x + 1)\n}\n";
         let expected = [
             (1, "unused import `B`".to_string()),
-            (4, "unused import `_+_`".to_string()),
+            (4, "unused import `◌+◌`".to_string()),
         ];
         assert_eq!(unused("crates/a/src/lib.rt", text), expected);
     }

@@ -1,6 +1,7 @@
 //! Functions of the code that take too many parameters.
 
 use crate::source::{Finding, Source};
+use crate::tokens::in_code_name;
 
 const MOST: usize = 7;
 
@@ -9,7 +10,9 @@ const COMMENT: &str = "// More than seven parameters: ";
 
 pub fn check(source: &Source) -> Vec<Finding> {
     let text = |at: usize| source.code.get(at).map_or("", |token| token.text.as_str());
-    let functions = (0..source.code.len()).filter(|&at| text(at) == "fn");
+    // Behind the `fn` of a type stands a bracket.
+    let functions = (0..source.code.len())
+        .filter(|&at| text(at) == "fn" && text(at + 1).starts_with(in_code_name));
     let counted = functions.map(|at| (at + 1, count((at + 2..source.code.len()).map(text))));
     counted
         .filter(|&(at, count)| count > MOST && !explained(source, source.code[at].line))
@@ -26,13 +29,25 @@ fn explained(source: &Source, line: usize) -> bool {
     above.map_or(false, |text| text.starts_with(COMMENT))
 }
 
-/// The parameters in the first brackets, without `self`.
+/// The parameters in the first brackets behind those of types, without `self`.
 fn count<'a>(words: impl Iterator<Item = &'a str>) -> usize {
+    let mut before = "";
+    let mut depth = 0;
+    // An arrow closes nothing.
+    let words = words.filter(|&word| {
+        let arrow = before == "-" && word == ">";
+        before = word;
+        !arrow
+    });
+    let words = words.skip_while(|&word| {
+        depth += i32::from(word == "<") - i32::from(word == ">");
+        word != "(" || depth > 0
+    });
     let mut depth = 0;
     let mut count = 0;
     // Whether the present parameter has a word of its own, and whether that is `self`.
     let (mut begun, mut receiver) = (false, false);
-    for word in words.skip_while(|&word| word != "(").skip(1) {
+    for word in words.skip(1) {
         if depth == 0 && (word == "," || word == ")") {
             count += usize::from(begun && !receiver);
             (begun, receiver) = (false, false);
@@ -77,7 +92,9 @@ mod tests {
         assert_eq!(found(&format!("fn few({seven},) {{}}")), []);
         let expected = [(2, "`many` takes 8 parameters, more than 7".to_string())];
         assert_eq!(
-            found(&format!("fn few() {{}}\nfn many({seven}, h: u8) {{}}")),
+            found(&format!(
+                "fn few(f: fn(u8) -> u8) {{}}\nfn many({seven}, h: u8) {{}}"
+            )),
             expected
         );
     }
@@ -95,5 +112,7 @@ mod tests {
             counted("fn f<'a>(a: &'a [u8], b: (u8, A<u8, u8>)) -> (u8, u8)"),
             2
         );
+        let generic = "fn f<F: Fn(u8, u8) -> u8>(a: F, b: impl Fn(u8) -> u8, c: u8) -> u8";
+        assert_eq!(counted(generic), 3);
     }
 }

@@ -1,6 +1,6 @@
 //! The files of the crates: what each brings in by `use`, and the words of its antt and of its code.
 
-use crate::tokens::{antt, Lexer, Token};
+use crate::tokens::{antt, bare, in_code_name, Lexer, Token};
 use std::path::{Path, PathBuf};
 use std::{fs, io};
 
@@ -14,7 +14,7 @@ pub struct Source {
     pub code: Vec<Token>,
 }
 
-/// `use PATH.{a, b as c}`, `use PATH`, `use PATH as name`, or one of the code.
+/// `use PATH.{a, b as c}`, `use PATH`, `use PATH as name`, one of the code, or `open TERM use {a, b as c}`, which has no path.
 pub struct Use {
     pub public: bool,
     pub code: bool,
@@ -78,7 +78,7 @@ impl Source {
         }
     }
 
-    /// `use` is a reserved word of antt, so that each begins an import. A fixity line names nothing.
+    /// `use` is a reserved word of antt, so that each begins an import, or what an `open` brings in. A fixity line names nothing.
     fn read_antt(&mut self, mut tokens: &[Token]) {
         while let Some((token, rest)) = tokens.split_first() {
             let length = match token.text.as_str() {
@@ -102,15 +102,14 @@ impl Source {
         }
     }
 
-    /// What stands in the braces of a clause and behind `ghost use` is antt.
+    /// What stands in the braces of a clause or of a ghost member and behind `ghost use` is antt.
     fn read_code(&mut self, mut lexer: Lexer) {
         while let Some(token) = lexer.code() {
-            let before: Vec<&str> = self.code.iter().rev().take(2).map(|t| &*t.text).collect();
-            match (token.text.as_str(), before.first().copied()) {
-                ("{", _) if before.iter().copied().any(is_clause) => {
-                    // A clause may have a name.
-                    let words = 1 + usize::from(!is_clause(before[0]));
-                    self.code.truncate(self.code.len() - words);
+            let before = self.code.last().map(|last| last.text.as_str());
+            match (token.text.as_str(), before) {
+                ("{", _) if clause_head(&self.code) > 0 => {
+                    let head = clause_head(&self.code);
+                    self.code.truncate(self.code.len() - head);
                     let mut depth = 1;
                     let clause = std::iter::from_fn(|| lexer.antt()).take_while(|token| {
                         depth += i32::from(token.text == "{") - i32::from(token.text == "}");
@@ -134,8 +133,38 @@ impl Source {
     }
 }
 
-fn is_clause(word: &str) -> bool {
-    matches!(word, "requires" | "ensures" | "ghost")
+/// How many tokens ahead of a brace begin a clause or a ghost member: `ensures`, `requires* name`, `ghost name:` or `ghost name =`.
+fn clause_head(code: &[Token]) -> usize {
+    let back = code.iter().rev().take(4).map(|token| token.text.as_str());
+    let words: Vec<&str> = back.collect();
+    let head = words
+        .iter()
+        .position(|word| matches!(*word, "requires" | "ensures" | "ghost"));
+    head.map_or(0, |head| {
+        let named = words[..head]
+            .iter()
+            .filter(|word| !matches!(**word, "*" | ":" | "="));
+        let names: Vec<&&str> = named.collect();
+        let is_name = |word: &str| word.chars().all(in_code_name);
+        match names.as_slice() {
+            [] => head + 1,
+            [name] if is_name(name) => head + 1,
+            _ => 0,
+        }
+    })
+}
+
+/// The paths that stand in antt itself: a name with all that is named through it.
+pub fn paths(tokens: &[Token]) -> impl Iterator<Item = String> + '_ {
+    let goes_on = |token: &Token| token.text.len() > 1 && token.text.starts_with('.');
+    let is_name = |text: &str| !text.starts_with(|c| "(){}.;,@\"".contains(c));
+    let starts = (0..tokens.len()).filter(move |&at| is_name(&tokens[at].text));
+    let whole = starts.map(move |at| {
+        let behind = tokens[at + 1..].iter().take_while(|token| goes_on(token));
+        let parts = std::iter::once(&tokens[at]).chain(behind);
+        parts.map(|token| token.text.as_str()).collect::<String>()
+    });
+    whole.filter(|path| path.contains('.'))
 }
 
 fn until_semicolon(next: impl FnMut() -> Option<Token>) -> Vec<Token> {
@@ -146,8 +175,14 @@ fn until_semicolon(next: impl FnMut() -> Option<Token>) -> Vec<Token> {
 
 /// How many of the tokens behind a `use` are of it: up to the closing brace, or the path, with `as` and a name.
 fn antt_use_length(tokens: &[Token]) -> usize {
-    let close = tokens.iter().position(|token| token.text == "}");
-    let of_path = |(at, token): &(usize, &Token)| *at == 0 || token.text.starts_with('.');
+    let mut depth = 0;
+    let close = tokens.iter().position(|token| {
+        depth += i32::from(token.text == "{") - i32::from(token.text == "}");
+        token.text == "}" && depth == 0
+    });
+    let of_path = |(at, token): &(usize, &Token)| {
+        token.text != "{" && (*at == 0 || token.text.starts_with('.'))
+    };
     let path = tokens.iter().enumerate().take_while(of_path).count();
     let length = match tokens.get(path).map(|token| token.text.as_str()) {
         Some("{") => close.map_or(tokens.len(), |close| close + 1),
@@ -188,7 +223,7 @@ fn code_use(public: bool, tokens: &[Token]) -> Use {
 fn items(tokens: &[Token]) -> Vec<Item> {
     let open = tokens.iter().position(|token| token.text == "{");
     let listed = &tokens[open.map_or(0, |open| open + 1)..];
-    let word = |token: &Token| token.text.trim_start_matches('.').to_string();
+    let word = |token: &Token| bare(token.text.trim_start_matches('.')).to_string();
     listed
         .split(|token| token.text == "," || token.text == "}")
         .filter(|item| !item.is_empty() && item[0].text != "syntax")
@@ -261,10 +296,10 @@ mod tests {
 
     #[test]
     fn uses_of_antt() {
-        let text = "use a.B.{_+_, c as d,\n  N.e}\nuse a.F\nuse a.G as g\npub use a.H.{h}\ninfix 80 _h_\nf : g.x\n";
+        let text = "use a.B.{◌+◌, c as d,\n  N.e}\nuse a.F\nuse a.G as g\npub use a.H.{h}\ninfix 80 ◌h◌\nf : g.x\n";
         let source = Source::new("crates/a/proofs/B.antt", text);
         let expected = [
-            ("a.B", "_+_", "_+_", 1),
+            ("a.B", "◌+◌", "◌+◌", 1),
             ("a.B", "c", "d", 1),
             ("a.B", "e", "e", 2),
             ("a.F", "F", "F", 3),
@@ -282,19 +317,45 @@ mod tests {
 
     #[test]
     fn uses_and_clauses_of_code() {
-        let text = "use a::B;\nghost use c.D.{e};\nfn f(x: u8)\n requires { ⌜ g {A = x} ⌝ }\n ensures all { j }\n{ a::h(x) }\n";
+        let text = "use a::B;\nghost use c.D.{e};\nfn f(x: u8)\n requires { g {A = x.now} }\n ensures all { j }\n{ a::h(x) }\n";
         let source = Source::new("crates/a/src/lib.rt", text);
         assert_eq!(
             brought(&source),
             [("a::B", "B", "B", 1), ("c.D", "e", "e", 2)]
         );
-        assert_eq!(words(&source.antt), "⌜ g { A = x } ⌝ j");
+        assert_eq!(words(&source.antt), "g { A = x .now } j");
         assert_eq!(words(&source.code), "fn f ( x : u8 ) { a : : h ( x ) }");
     }
 
     #[test]
+    fn ghost_members_and_starred_clauses() {
+        let text = "struct S { x: u8, ghost low: { x < a }, }\nimpl Model for S { ghost use c.D.{e}; ghost view = { b }; }\nfn f()\n ghost top: { c }\n requires* { d }\n ensures* all { e }\n{ g() }\n";
+        let source = Source::new("crates/a/src/lib.rt", text);
+        assert_eq!(brought(&source), [("c.D", "e", "e", 2)]);
+        assert_eq!(words(&source.antt), "x < a b c d e");
+        let code = "struct S { x : u8 , , } impl Model for S { ; } fn f ( ) { g ( ) }";
+        assert_eq!(words(&source.code), code);
+    }
+
+    #[test]
+    fn opened_fields() {
+        let text = "f : a\nf = c\n  where\n  open b.d use {c, g.{h as k}}\n  use a.B.{c}\n";
+        let source = Source::new("crates/a/proofs/B.antt", text);
+        let expected = [("", "c", "c", 4), ("", "h", "k", 4), ("a.B", "c", "c", 5)];
+        assert_eq!(brought(&source), expected);
+        assert_eq!(words(&source.antt), "f : a f = c where open b .d");
+    }
+
+    #[test]
+    fn paths_in_antt() {
+        let tokens = antt("f x = Rattle.e.specs.E.z x (g c.now).h");
+        let found: Vec<String> = paths(&tokens).collect();
+        assert_eq!(found, ["Rattle.e.specs.E.z", "c.now"]);
+    }
+
+    #[test]
     fn whose_a_file_is() {
-        let source = Source::new("crates/merge/proofs/rise/Proof.antt", "");
-        assert_eq!((source.owner(), source.name()), ("merge", "Proof.antt"));
+        let source = Source::new("crates/merge/proofs/rise/Answers.antt", "");
+        assert_eq!((source.owner(), source.name()), ("merge", "Answers.antt"));
     }
 }

@@ -1,5 +1,6 @@
 //! The words of the two languages. A name of antt is any run of characters other than spaces and `( ) { } . ; , @ " « »`, and what stands
-//! between `«` and `»` is one name. A name directly behind a dot keeps the dot: a field, or what is named through a module.
+//! between `«` and `»` is one name. A name directly behind a dot keeps the dot: a field, or what is named through a module. In the name of
+//! an operator `◌` stands where its arguments go.
 
 #[derive(Clone, Debug, PartialEq, Eq)]
 pub struct Token {
@@ -142,6 +143,12 @@ pub fn in_code_name(c: char) -> bool {
     c.is_alphanumeric() || c == '_'
 }
 
+/// A name without the marks in which one may be set: `«data»` is `data`.
+pub fn bare(name: &str) -> &str {
+    let inner = name.strip_prefix('«').and_then(|n| n.strip_suffix('»'));
+    inner.unwrap_or(name)
+}
+
 /// A whole text's tokens of antt.
 pub fn antt(text: &str) -> Vec<Token> {
     let mut lexer = Lexer::new(text);
@@ -158,25 +165,28 @@ mod tests {
 
     #[test]
     fn names_of_antt() {
-        let text = "f·a-b (x₀ ∷ xs′) = λ y. tie.spec y .before .«page_sum» -- no\n";
+        let text = "f·a-b (x₀ ∷ xs') = λ y. goal.at c.«page_sum» ◌+◌ .+f «data» -- no\n";
         let expected = [
             "f·a-b",
             "(",
             "x₀",
             "∷",
-            "xs′",
+            "xs'",
             ")",
             "=",
             "λ",
             "y",
             ".",
-            "tie",
-            ".spec",
-            "y",
-            ".before",
+            "goal",
+            ".at",
+            "c",
             ".«page_sum»",
+            "◌+◌",
+            ".+f",
+            "«data»",
         ];
         assert_eq!(texts(antt(text)), expected);
+        assert_eq!((bare("«data»"), bare("data")), ("data", "data"));
     }
 
     #[test]

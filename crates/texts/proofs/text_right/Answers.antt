@@ -1,0 +1,18 @@
+-- What is left of the text is the rule of what is left.
+use mathlib.Core.Path.{ap}
+use mathlib.Core.Bool.{not}
+use Rattle.texts.proofs.Text.{text_empty, text-fault, text_turn, text-end}
+use borrow.Author.Rules.{rules}
+use Rattle.texts.proofs.text_right.Goals as goal
+
+pub returns-then-n-eq0 : goal.returns-then-n-eq0
+returns-then-n-eq0 c = text_empty _ (search rules)
+
+pub returns-then-not-within : goal.returns-then-not-within
+returns-then-not-within c = let l = c in text-fault l.loop-i.invariant.1 (search rules) c.wide.ensures.0 c.within.ensures (ap not c.if-not-within.true)
+
+pub loop-i-preserved : goal.loop-i-preserved
+loop-i-preserved c = let l = c in (l.loop-i.invariant.0, text_turn l.loop-i.invariant.1 (search rules) c.wide.ensures.0 c.within.ensures (ap not c.if-not-within.false))
+
+pub returns : goal.returns
+returns c = text-end _ c.loop-i.invariant.1 (search rules) (search rules)
