@@ -3,8 +3,8 @@
 
 ghost use Rattle.std.specs.Prelude.{◌≤◌, length};
 
-use libc::STDOUT_FILENO;
 use rules::State;
+use std::io;
 use store::Session;
 
 // A pattern of twenty bytes.
@@ -14,209 +14,220 @@ const FIRST: [u8; 16] = *b"20240305T070000Z";
 
 const SECOND: [u8; 16] = *b"20240305T091500Z";
 
-fn say(what: &[u8], number: u64) {
-    io::write_all(STDOUT_FILENO, what);
-    io::write_all(STDOUT_FILENO, b" ");
-    io::print_decimal(STDOUT_FILENO, number);
-    io::write_all(STDOUT_FILENO, b"\n");
+fn say(rt: &impl Print, what: &[u8], number: u64) -> io::Result<()> {
+    rt.write_all(what)?;
+    println!(rt; " {number}")
 }
 
-fn show_checksum(bytes: &[u8]) {
-    io::write_all(STDOUT_FILENO, b"checksum 0x");
-    io::print_hex(STDOUT_FILENO, checksum::fletcher32_any(bytes), 8);
-    io::write_all(STDOUT_FILENO, b"\n");
+fn show_checksum(rt: &impl Print, bytes: &[u8]) -> io::Result<()> {
+    let sums = checksum::fletcher32_any(bytes);
+    println!(rt; "checksum 0x{sums:08x}")
 }
 
-fn of_checksums() {
-    show_checksum(b"");
-    show_checksum(&[1]);
-    show_checksum(&[0, 1]);
-    show_checksum(&[255, 255]);
-    show_checksum(&[255, 255, 0, 1]);
+fn of_checksums(rt: &impl Print) -> io::Result<()> {
+    show_checksum(rt, b"")?;
+    show_checksum(rt, &[1])?;
+    show_checksum(rt, &[0, 1])?;
+    show_checksum(rt, &[255, 255])?;
+    show_checksum(rt, &[255, 255, 0, 1])
 }
 
-fn show_creation(page: u64) {
+fn show_creation(rt: &impl Print, page: u64) -> io::Result<()> {
     let mut history = [0u8; 512];
-    io::write_all(STDOUT_FILENO, b"page size ");
-    io::print_decimal(STDOUT_FILENO, page);
-    say(b" created", opening::create(&mut history, 20, page, false));
+    print!(rt; "page size {page}")?;
+    say(
+        rt,
+        b" created",
+        opening::create(&mut history, 20, page, false),
+    )
 }
 
-fn of_page_sizes() {
-    show_creation(16);
-    show_creation(4096);
-    show_creation(8);
-    show_creation(24);
-    show_creation(8192);
+fn of_page_sizes(rt: &impl Print) -> io::Result<()> {
+    show_creation(rt, 16)?;
+    show_creation(rt, 4096)?;
+    show_creation(rt, 8)?;
+    show_creation(rt, 24)?;
+    show_creation(rt, 8192)
 }
 
 // The first two places for pages that a session touched; unused places are 0.
-fn show_pages(pages: &[u32])
+fn show_pages(rt: &impl Print, pages: &[u32]) -> io::Result<()>
     requires { 2 ≤ length pages.now }
 {
-    say(b"  its first page", pages[0] as u64);
-    say(b"  its second page", pages[1] as u64);
+    say(rt, b"  its first page", pages[0] as u64)?;
+    say(rt, b"  its second page", pages[1] as u64)
 }
 
 // The numbers of a session, and its pages.
-fn show_session(session: Session) {
+fn show_session(rt: &impl Print, session: Session) -> io::Result<()> {
     let state: State = session.state;
-    say(b"  its end", state.end);
-    say(b"  its parent", state.parent);
-    say(b"  its size", state.size);
-    say(b"  its pages", state.n);
-    show_pages(&state.pages);
+    say(rt, b"  its end", state.end)?;
+    say(rt, b"  its parent", state.parent)?;
+    say(rt, b"  its size", state.size)?;
+    say(rt, b"  its pages", state.n)?;
+    show_pages(rt, &state.pages)
 }
 
 // Where a revision's page lies in the history.
-fn show_page(history: &[u8], revision: u64, address: u64) {
+fn show_page(rt: &impl Print, history: &[u8], revision: u64, address: u64) -> io::Result<()> {
     let found = lookup::look_up_place(&ORIGINAL, history, revision, address);
-    say(b"  look-up", found.number);
-    say(b"  its source", found.source);
-    say(b"  its offset", found.offset);
-    say(b"  its length", found.length);
+    say(rt, b"  look-up", found.number)?;
+    say(rt, b"  its source", found.source)?;
+    say(rt, b"  its offset", found.offset)?;
+    say(rt, b"  its length", found.length)
 }
 
 // Where the newest revision's record and the whole history lie.
-fn show_places(history: &[u8]) {
+fn show_places(rt: &impl Print, history: &[u8]) -> io::Result<()> {
     let record = browsing::browse_place(history, 18446744073709551615);
-    say(b"  record at", record.offset);
-    say(b"  of", record.length);
+    say(rt, b"  record at", record.offset)?;
+    say(rt, b"  of", record.length)?;
     let judged = whole::judge(history);
     if judged.number != 0 {
-        return;
+        return Ok(());
     }
-    say(b"  whole history at", judged.setting.address);
-    say(b"  of", judged.setting.size);
+    say(rt, b"  whole history at", judged.setting.address)?;
+    say(rt, b"  of", judged.setting.size)
 }
 
-fn show_step(record: &[u8], place: u64) {
+fn show_step(rt: &impl Print, record: &[u8], place: u64) -> io::Result<()> {
     let step = browsing::step_at(record, place);
-    say(b"  step", step.kind);
-    say(b"    logical", step.logical);
-    say(b"    physical", step.physical);
+    say(rt, b"  step", step.kind)?;
+    say(rt, b"    logical", step.logical)?;
+    say(rt, b"    physical", step.physical)
 }
 
 // The index entries of a revision that has two, and the end behind them.
-fn show_index(history: &[u8], revision: u64) {
+fn show_index(rt: &impl Print, history: &[u8], revision: u64) -> io::Result<()> {
     let record = browsing::record_part(history, revision);
-    show_step(record, 0);
-    show_step(record, 1);
-    show_step(record, 2);
+    show_step(rt, record, 0)?;
+    show_step(rt, record, 1)?;
+    show_step(rt, record, 2)
 }
 
 // The bytes of a revision.
-fn show_bytes(history: &[u8], revision: u64, at: u64, out: &mut [u8]) {
-    say(
-        b"read",
-        reading::read(&ORIGINAL, history, revision, at, out),
-    );
-    io::write_all(STDOUT_FILENO, b"  ");
-    io::write_all(STDOUT_FILENO, out);
-    io::write_all(STDOUT_FILENO, b"\n");
+fn show_bytes(
+    rt: &impl Print,
+    history: &[u8],
+    revision: u64,
+    at: u64,
+    out: &mut [u8],
+) -> io::Result<()> {
+    let number = reading::read(&ORIGINAL, history, revision, at, out);
+    say(rt, b"read", number)?;
+    print!(rt; "  ")?;
+    rt.write_all(out)?;
+    println!(rt)
 }
 
-fn show_revisions(history: &[u8]) {
+fn show_revisions(rt: &impl Print, history: &[u8]) -> io::Result<()> {
     let mut before = [0x2Eu8; 20];
-    show_bytes(history, 0, 0, &mut before);
+    show_bytes(rt, history, 0, 0, &mut before)?;
     let mut first = [0x2Eu8; 20];
-    show_bytes(history, 1, 0, &mut first);
+    show_bytes(rt, history, 1, 0, &mut first)?;
     let mut second = [0x2Eu8; 21];
-    show_bytes(history, 2, 0, &mut second);
+    show_bytes(rt, history, 2, 0, &mut second)
 }
 
-fn show_list(history: &[u8]) {
+fn show_list(rt: &impl Print, history: &[u8]) -> io::Result<()> {
     let mut text = [0u8; 169068];
     let length = listing::list_program(history, &mut text);
-    io::write_all(STDOUT_FILENO, &text[..length]);
+    rt.write_all(&text[..length])
 }
 
 // ---- Session calls, each with what it answers
 
-fn open(history: &mut [u8], revision: u64) -> Session {
+fn open(rt: &impl Print, history: &mut [u8], revision: u64) -> io::Result<Session> {
     let answer = store::open_for_writing(&ORIGINAL, history, revision);
-    say(b"open", answer.number);
-    show_session(answer.session);
-    answer.session
+    say(rt, b"open", answer.number)?;
+    show_session(rt, answer.session)?;
+    Ok(answer.session)
 }
 
-fn write(session: Session, history: &mut [u8], at: u64, bytes: &[u8]) -> Session {
+fn write(
+    rt: &impl Print,
+    session: Session,
+    history: &mut [u8],
+    at: u64,
+    bytes: &[u8],
+) -> io::Result<Session> {
     let answer = session.write(&ORIGINAL, history, at, bytes);
-    say(b"write", answer.number);
-    show_session(answer.session);
-    answer.session
+    say(rt, b"write", answer.number)?;
+    show_session(rt, answer.session)?;
+    Ok(answer.session)
 }
 
-fn commit(session: Session, history: &mut [u8], time: &[u8]) {
+fn commit(rt: &impl Print, session: Session, history: &mut [u8], time: &[u8]) -> io::Result<()> {
     let answer = session.commit(history, time, 7, b"ana\0", b"\0");
-    say(b"commit", answer.number);
-    show_session(answer.session);
-    show_places(history);
+    say(rt, b"commit", answer.number)?;
+    show_session(rt, answer.session)?;
+    show_places(rt, history)
 }
 
-fn release(session: Session, history: &mut [u8]) -> Session {
+fn release(rt: &impl Print, session: Session, history: &mut [u8]) -> io::Result<Session> {
     let answer = session.release(history);
-    say(b"release", answer.number);
-    show_session(answer.session);
-    answer.session
+    say(rt, b"release", answer.number)?;
+    show_session(rt, answer.session)?;
+    Ok(answer.session)
 }
 
 // ---- The examples of a history
 
 // The edge of a write: no bytes at the size are accepted, and behind it they are refused.
-fn of_the_edge(history: &mut [u8]) {
-    let session = open(history, 0);
-    let none = write(session, history, 20, b"");
-    let past = write(none, history, 21, b"");
-    of_release(past, history);
+fn of_the_edge(rt: &impl Print, history: &mut [u8]) -> io::Result<()> {
+    let session = open(rt, history, 0)?;
+    let none = write(rt, session, history, 20, b"")?;
+    let past = write(rt, none, history, 21, b"")?;
+    of_release(rt, past, history)
 }
 
 // A released session leaves scratch behind the end, which nothing looks at; the ended session is refused.
-fn of_release(session: Session, history: &mut [u8]) {
-    let scratch = write(session, history, 0, b"scratch");
-    let ended = release(scratch, history);
-    write(ended, history, 0, b"late");
+fn of_release(rt: &impl Print, session: Session, history: &mut [u8]) -> io::Result<()> {
+    let scratch = write(rt, session, history, 0, b"scratch")?;
+    let ended = release(rt, scratch, history)?;
+    write(rt, ended, history, 0, b"late")?;
+    Ok(())
 }
 
-fn of_the_first(history: &mut [u8]) {
-    let session = open(history, 0);
-    let written = write(session, history, 14, b"four");
-    commit(written, history, &FIRST);
-    show_page(history, 1, 0);
-    show_page(history, 1, 16);
+fn of_the_first(rt: &impl Print, history: &mut [u8]) -> io::Result<()> {
+    let session = open(rt, history, 0)?;
+    let written = write(rt, session, history, 14, b"four")?;
+    commit(rt, written, history, &FIRST)?;
+    show_page(rt, history, 1, 0)?;
+    show_page(rt, history, 1, 16)
 }
 
-fn of_the_second(history: &mut [u8]) {
-    let session = open(history, 1);
-    let written = write(session, history, 20, b"!");
-    commit(written, history, &SECOND);
-    show_index(history, 2);
+fn of_the_second(rt: &impl Print, history: &mut [u8]) -> io::Result<()> {
+    let session = open(rt, history, 1)?;
+    let written = write(rt, session, history, 20, b"!")?;
+    commit(rt, written, history, &SECOND)?;
+    show_index(rt, history, 2)
 }
 
-fn of_reading(history: &[u8]) {
+fn of_reading(rt: &impl Print, history: &[u8]) -> io::Result<()> {
     let mut byte = [0x2Eu8; 1];
-    show_bytes(history, 1, 20, &mut byte);
-    show_bytes(history, 2, 20, &mut byte);
-    show_revisions(history);
+    show_bytes(rt, history, 1, 20, &mut byte)?;
+    show_bytes(rt, history, 2, 20, &mut byte)?;
+    show_revisions(rt, history)?;
     let checked = checking::check(history);
-    say(b"check", checked.number);
+    say(rt, b"check", checked.number)?;
     if history.len() < 466 {
-        return;
+        return Ok(());
     }
-    show_list(&history[..466]);
+    show_list(rt, &history[..466])
 }
 
-fn of_the_history(history: &mut [u8]) {
-    say(b"create", opening::create(history, 20, 16, false));
-    of_the_edge(history);
-    of_the_first(history);
-    of_the_second(history);
-    of_reading(history);
+fn of_the_history(rt: &impl Print, history: &mut [u8]) -> io::Result<()> {
+    say(rt, b"create", opening::create(history, 20, 16, false))?;
+    of_the_edge(rt, history)?;
+    of_the_first(rt, history)?;
+    of_the_second(rt, history)?;
+    of_reading(rt, history)
 }
 
-fn main() {
-    of_checksums();
-    of_page_sizes();
+fn main(rt: HostRuntime) -> io::Result<()> {
+    of_checksums(&rt)?;
+    of_page_sizes(&rt)?;
     let mut history = [0xEEu8; 512];
-    of_the_history(&mut history);
+    of_the_history(&rt, &mut history)
 }

@@ -2,12 +2,32 @@
 // that longer input is noticed and refused.
 #![tactic(auto)]
 
-use libc::{STDIN_FILENO, STDOUT_FILENO};
+ghost use Rattle.std.specs.Prelude.{◌≤◌, ◌<◌, take, length, IfOk};
+ghost use Rattle.std.specs.Io.KnownBytes.{Consumes, IsAtEnd};
 
-fn main() {
+use std::io::{self, Read};
+
+// Reads until the buffer is full or the input ends, and answers how many bytes now stand at its start.
+fn read_full<R: Read>(from: &mut R, buffer: &mut [u8]) -> io::Result<usize>
+    ensures within { IfOk result (λ n. n ≤ length buffer.new) }
+    ensures bytes { IfOk result (λ n. Consumes (R.remaining from.old) (R.remaining from.new) (take n buffer.new)) }
+    ensures end { IfOk result (λ n. n < length buffer.new → IsAtEnd (R.remaining from.new)) }
+{
+    let mut read = 0;
+    while read < buffer.len() {
+        let more = from.read(&mut buffer[read..])?;
+        if more == 0 {
+            break;
+        }
+        read += more;
+    }
+    Ok(read)
+}
+
+fn main(rt: HostRuntime) -> io::Result<()> {
     let mut history = [0u8; listing::LIST_LIMIT + 1];
-    let read = io::read_full(STDIN_FILENO, &mut history);
+    let read = read_full(&mut rt.reader(), &mut history)?;
     let mut text = [0u8; listing::LONGEST];
     let length = listing::list_program(&history[..read], &mut text);
-    io::write_all(STDOUT_FILENO, &text[..length]);
+    rt.write_all(&text[..length])
 }
