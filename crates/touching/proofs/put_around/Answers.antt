@@ -1,0 +1,22 @@
+-- What the write leaves of the copy stands ahead of its run and behind it.
+use mathlib.Core.Path.{◌∙◌}
+use native.Mathlib.Omega.{arith}
+use Rattle.touching.proofs.Copies.{source-behind, page-laid}
+use Rattle.touching.proofs.Touches.{over_run, run_long}
+use Rattle.touching.proofs.put_around.Goals as goal
+
+pub put_kept-requires-2 : goal.put_kept-requires-2
+put_kept-requires-2 c =
+    let s = c in
+    let a = s.args in
+    let v = s.requires.0 in
+    let r = c.run_in-run.ensures in
+    (source-behind a.original.now a.p.address a.p.size s.requires.1 _ _ _ (run_long a.bytes.now r) r.in-page c.put_kept.ensures c.put_run.ensures, omega (arith, v.below, v.short, v.small, r.in-page))
+
+pub returns : goal.returns
+returns c =
+    let s = c in
+    let a = s.args in
+    let r = c.run_in-run.ensures in
+    page-laid a.original.now a.p.address a.p.size s.requires.1 _ _ _ (run_long a.bytes.now r) r.in-page c.put_kept.ensures c.put_run.ensures c.put_kept-2.ensures
+    ∙ over_run _ a.to a.bytes.now r

@@ -1,0 +1,35 @@
+-- Nothing is laid, or the stored page's bytes where the index has the page, or the original's.
+use mathlib.Core.Path.{sym}
+use Prim.Native.Nat.{◌+◌, ◌≤◌}
+use native.Mathlib.Omega.{arith}
+use Rattle.rules.specs.Bytes.{tabulate}
+use Rattle.rules.proofs.Bytes.{laid-nothing}
+use Rattle.touching.proofs.Copies.{page-stored, page-original, source_entry}
+use Rattle.touching.proofs.put_page.Goals as goal
+use Rattle.touching.proofs.put_page.Goals.{After-entry-e}
+
+-- The stored page lies ahead.
+ahead : (c : After-entry-e) → c.entry-e.result.physical + (c.args.from + c.args.n) ≤ c.args.to
+ahead c = source_entry c.requires.0 c.if-place-x.true c.entry-e.ensures
+
+pub returns-then-n-eq0 : goal.returns-then-n-eq0
+unfolding tabulate
+returns-then-n-eq0 c = rw c.if-n-eq0.true (sym (laid-nothing _ _))
+
+pub overflow_add-e : goal.overflow_add-e
+overflow_add-e c = omega (arith, ahead (goal.at.overflow_add-e c).After-entry-e, c.requires.0.room)
+
+pub copy_run-requires : goal.copy_run-requires
+copy_run-requires c = (omega (arith, ahead (goal.at.copy_run-requires c).After-entry-e), c.requires.0.room)
+
+pub returns-then-place-x : goal.returns-then-place-x
+returns-then-place-x c =
+    let s = c in
+    let a = s.args in
+    let e = c in
+    page-stored a.original.now _ a.p.x a.to a.p.address a.from a.n e.find-place.ensures.0 e.if-place-x.true e.entry-e.ensures (omega (arith, ahead (goal.at.returns-then-place-x c).After-entry-e, s.requires.0.room)) c.copy_run.ensures
+
+pub returns : goal.returns
+returns c =
+    let a = c.args in
+    page-original a.original.now _ a.p.x a.to a.p.address a.from a.n c.find-place.ensures.0 c.if-place-x.false c.put_original.ensures
