@@ -1,7 +1,10 @@
 -- What is left of the check is the rule of what is left, and a fault that is found is its whole answer.
-use Rattle.checking.proofs.Checking.{index-inside, page-inside, revisions-end, revisions-fault, entries-start, entries-fault, entries_turn, entries-end}
+use Rattle.checking.proofs.Checking.{index-inside, page-inside, revisions-start, revisions-end, revisions-fault, entries-start, entries-fault, entries_turn, entries-end}
 use borrow.Author.Rules.{rules}
 use Rattle.checking.proofs.check_revisions.Goals as goal
+
+pub revisions-init : goal.revisions-init
+revisions-init c = revisions-start _ _
 
 pub loop-j-init : goal.loop-j-init
 loop-j-init c =

@@ -1,10 +1,12 @@
 -- What is left to judge is the rule of what is left, and the lines that are counted are those of the records that passed.
 use mathlib.Core.Path.{sym, ◌∙◌}
-use Prim.Native.Nat.{◌-◌}
 use native.Mathlib.Omega.{arith}
 use Rattle.listing.proofs.Passing.{rows-fault, rows_end, record-shown}
-use Rattle.listing.proofs.Text.{count_turn, count-end}
+use Rattle.listing.proofs.Text.{count-start, count_turn, count-end}
 use Rattle.listing.proofs.judge_records.Goals as goal
+
+pub loop-k-init : goal.loop-k-init
+loop-k-init c = count-start _ _
 
 pub returns-then-judged-ne0 : goal.returns-then-judged-ne0
 returns-then-judged-ne0 c =

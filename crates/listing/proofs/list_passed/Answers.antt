@@ -1,8 +1,17 @@
 -- The two pieces are the lines, and they are written whole or not at all.
+use mathlib.Core.List.{◌++◌}
+use Rattle.rules.specs.Listing.{setting_line, record_lines}
 use Rattle.listing.proofs.Lines.{written_then}
-use Rattle.listing.proofs.Text.{fitted_whole, lines_long}
+use Rattle.listing.proofs.Text.{fitted_not, fitted_whole, lines_long}
 use borrow.Author.Rules.{rules}
 use Rattle.listing.proofs.list_passed.Goals as goal
+
+pub returns-then-out-total : goal.returns-then-out-total
+returns-then-out-total c =
+    let begin = c in
+    let a = begin.args in
+    let lines = setting_line a.s ++ record_lines a.history.now a.s 1 a.s.count in
+    record { text = fitted_not _ lines (lines_long _ _ c.setting_length.ensures.0 begin.requires.1.all) c.if-out-total.true; short = search rules }
 
 pub returns : goal.returns
 returns c =

@@ -1,5 +1,4 @@
 -- What is written so far are the lines of the records so far, and every record passes.
-use Prim.Native.Nat.{◌-◌}
 use native.Mathlib.Omega.{arith}
 use Rattle.listing.proofs.Passing.{record-shown}
 use Rattle.listing.proofs.Text.{written_start, written-clear, written-room, written_turn, written-end}

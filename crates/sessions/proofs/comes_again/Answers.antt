@@ -1,5 +1,5 @@
 -- Pages that rise do not come again; others are looked for.
-use Rattle.sessions.proofs.Pages.{again-rising}
+use Rattle.sessions.proofs.Pages.{again_is, again-rising}
 use Rattle.sessions.proofs.comes_again.Goals as goal
 
 pub returns-then-rising : goal.returns-then-rising
@@ -8,3 +8,10 @@ returns-then-rising c =
     let a = begin.args in
     let p = begin.requires.from_nonzero in
     again-rising a.pages.now a.from a.n a.page p.0 p.1 p.2 p.3 (begin.requires.rising c.if-rising.true)
+
+pub returns : goal.returns
+returns c =
+    let begin = c in
+    let a = begin.args in
+    let p = begin.requires.from_nonzero in
+    again_is a.pages.now a.from a.n _ p.1 p.2 c.own_place.ensures.0

@@ -1,7 +1,8 @@
 -- The sum that could wrap waits until its parts are small.
 use mathlib.Core.Bool.{not}
 use mathlib.Core.Path.{ap}
-use Rattle.sessions.proofs.Sound.{wrong_numbers, wrong-room, wrong-pages}
+use native.Mathlib.Omega.{arith}
+use Rattle.sessions.proofs.Sound.{pages-short, wrong_numbers, numbers-right, wrong-room, wrong-pages}
 use Rattle.sessions.proofs.session_wrong.Goals as goal
 
 pub returns-then-not-fitting : goal.returns-then-not-fitting
@@ -9,10 +10,28 @@ returns-then-not-fitting c =
     let a = c.args in
     wrong_numbers _ a.s a.st c.end_of.ensures (ap not c.if-not-fitting.true)
 
+pub overflow_mul-st : goal.overflow_mul-st
+overflow_mul-st c =
+    let begin = c in
+    let w = numbers-right 0 begin.args.s begin.args.st c.end_of.ensures (ap not c.if-not-fitting.false) in
+    omega (arith, pages-short w.touched begin.requires.paged.most)
+
+pub overflow_add-st : goal.overflow_add-st
+overflow_add-st c =
+    let begin = c in
+    let w = numbers-right 0 begin.args.s begin.args.st c.end_of.ensures (ap not c.if-not-fitting.false) in
+    omega (arith, pages-short w.touched begin.requires.paged.most, w.end, begin.requires.ends, begin.requires.short)
+
 pub returns-then-history-st : goal.returns-then-history-st
 returns-then-history-st c =
     let a = c.args in
     wrong-room _ a.s a.st c.end_of.ensures (ap not c.if-not-fitting.false) c.if-history-st.true
+
+pub pages_fit-requires : goal.pages_fit-requires
+pages_fit-requires c =
+    let begin = c in
+    let w = numbers-right 0 begin.args.s begin.args.st c.end_of.ensures (ap not c.if-not-fitting.false) in
+    (omega (arith, w.touched), begin.requires.allowed)
 
 pub returns : goal.returns
 returns c =

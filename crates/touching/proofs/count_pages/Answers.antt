@@ -13,7 +13,7 @@ use Rattle.rules.proofs.Range.{own-there, own-missing}
 use Rattle.layout.specs.Paged.{farthest}
 use Rattle.view.proofs.Pages.{range-room}
 use Rattle.touching.specs.Pages.{missing}
-use Rattle.touching.proofs.Counting.{Counting, counting-start, counting_own, counting_run, counting-room, counted_past}
+use Rattle.touching.proofs.Counting.{Counting, counting-start, counting_own, counting_run, counting-room, counted_past, counted-end}
 use Rattle.touching.proofs.count_pages.Goals as goal
 use Rattle.touching.proofs.count_pages.Goals.{After-new_pages-some, At-loop-k, Then-n-own_place}
 
@@ -85,3 +85,6 @@ loop-k-preserved c =
     let turn = c in
     let s = turn in
     counting_own _ _ _ _ turn.loop-k.invariant turn.loop-k-test.true s.requires.entries_in_bounds.1 (omega (arith, s.requires.before_value.2.least)) (own-there _ _ _ s.requires.entries_in_bounds.2 c.own_place.ensures.0 c.if-n-own_place.false)
+
+pub returns : goal.returns
+returns c = rw (← c.pages_in-m.ensures) (counted-end c.loop-k.invariant c.loop-k-test.false)

@@ -6,7 +6,7 @@ use lib.ListN.{length}
 use Rattle.rules.specs.Layout.{entries_in}
 use Rattle.rules.specs.View.{logicals}
 use Rattle.rules.proofs.Entries.{length-logicals_entries}
-use Rattle.touching.proofs.Counting.{ahead, page-ahead, ahead_within, passing-start, passing_rest, passing-ahead, passing-at}
+use Rattle.touching.proofs.Counting.{ahead, page-ahead, ahead_within, passing-start, passing_rest, passing-ahead, passing-at, passing-below}
 use Rattle.touching.proofs.missing_pages.Goals as goal
 use Rattle.touching.proofs.missing_pages.Goals.{Start, Then-here-next}
 
@@ -49,3 +49,10 @@ loop-k-preserved c =
     let turn = read in
     let s = turn in
     passing-at turn.loop-k.invariant s.requires.1 (rw (long (goal.at.loop-k-preserved c).Start) read.if-x-place.false) (omega (arith, s.requires.2.least)) turn.loop-k-test.true (omega (arith, read.logical-next.ensures, c.if-next-here.false, c.if-here-next.false))
+
+pub loop-k-preserved-then-next-here : goal.loop-k-preserved-then-next-here
+loop-k-preserved-then-next-here c =
+    let read = c in
+    let head = read in
+    let s = head in
+    passing-below head.loop-k.invariant s.requires.1 (rw (long (goal.at.loop-k-preserved-then-next-here c).Start) read.if-x-place.false) (omega (arith, read.logical-next.ensures, c.if-next-here.true))

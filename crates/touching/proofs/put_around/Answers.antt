@@ -1,9 +1,12 @@
 -- What the write leaves of the copy stands ahead of its run and behind it.
 use mathlib.Core.Path.{◌∙◌}
 use native.Mathlib.Omega.{arith}
-use Rattle.touching.proofs.Copies.{source-behind, page-laid}
+use Rattle.touching.proofs.Copies.{source_less, source-behind, page-laid}
 use Rattle.touching.proofs.Touches.{over_run, run_long}
 use Rattle.touching.proofs.put_around.Goals as goal
+
+pub put_kept-requires : goal.put_kept-requires
+put_kept-requires c = let s = c in (source_less _ s.requires.1 (omega (arith, c.run_in-run.ensures.in-page)), omega (arith, s.requires.0.below, s.requires.0.short))
 
 pub put_kept-requires-2 : goal.put_kept-requires-2
 put_kept-requires-2 c =

@@ -1,6 +1,10 @@
 -- The bytes below the size are the page's, and those past it zeros.
-use Rattle.touching.proofs.Copies.{copied}
+use native.Mathlib.Omega.{arith}
+use Rattle.touching.proofs.Copies.{source_less, copied}
 use Rattle.touching.proofs.put_kept.Goals as goal
+
+pub put_page-requires : goal.put_page-requires
+put_page-requires c = let s = c in (source_less _ s.requires.0 (omega (arith, c.below-keep.ensures)), s.requires.1)
 
 pub returns : goal.returns
 returns c =
