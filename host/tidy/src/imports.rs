@@ -49,6 +49,14 @@ mod tests {
     }
 
     #[test]
+    fn a_module_itself() {
+        let text =
+            "use a::b::{self, C};\nuse a::d::{self, E};\nfn f(c: C) -> b::G {\n  E::g(c)\n}\n";
+        let expected = [(2, "unused import `d`".to_string())];
+        assert_eq!(unused("crates/a/src/lib.rt", text), expected);
+    }
+
+    #[test]
     fn clauses_and_code_apart() {
         let text = "use a::B;\nuse a::C;\nuse a::D;\nghost use d.E.{◌+◌, e};\nfn f(c: C) -> u8\n  ensures { B e result }\n{\n  D::d(c.x + 1)\n}\n";
         let expected = [

@@ -219,9 +219,12 @@ fn code_use(public: bool, tokens: &[Token]) -> Use {
     }
 }
 
-/// The names within the braces, or the one at the end of the path.
+/// The names within the braces, or the one at the end of the path. `self` within the braces brings in what the path ends in.
 fn items(tokens: &[Token]) -> Vec<Item> {
     let open = tokens.iter().position(|token| token.text == "{");
+    let path = &tokens[..open.unwrap_or(0)];
+    let is_name = |token: &&Token| token.text.chars().all(in_code_name);
+    let last = path.iter().rev().find(is_name);
     let listed = &tokens[open.map_or(0, |open| open + 1)..];
     let word = |token: &Token| bare(token.text.trim_start_matches('.')).to_string();
     listed
@@ -229,6 +232,7 @@ fn items(tokens: &[Token]) -> Vec<Item> {
         .filter(|item| !item.is_empty() && item[0].text != "syntax")
         .map(|item| {
             let here = &item[item.len() - 1];
+            let here = last.filter(|_| here.text == "self").unwrap_or(here);
             let name = match item.iter().position(|token| token.text == "as") {
                 Some(renamed) => &item[renamed - 1],
                 None => here,

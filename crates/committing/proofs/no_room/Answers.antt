@@ -4,9 +4,8 @@ use Rattle.committing.proofs.no_room.Goals as goal
 
 pub end_of-requires : goal.end_of-requires
 end_of-requires c =
-    let begin = c in
-    let p = begin.requires in
-    let near = setting-near begin.args.s begin.args.r c.setting_stored-t.ensures p.0 p.1 p.2 p.3 in
+    let p = c.requires in
+    let near = setting-near c.args.s c.args.r c.setting_stored-t.ensures p.0 p.1 p.2 p.3 in
     (near.0, near.1, near.2)
 
 pub returns : goal.returns

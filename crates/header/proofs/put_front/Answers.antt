@@ -5,11 +5,4 @@ use Rattle.header.proofs.put_front.Goals as goal
 
 pub returns : goal.returns
 returns c =
-    let size = c in
-    let address = size in
-    let original = address in
-    let page = original in
-    let flags = page in
-    let signature = flags in
-    let versioned = signature in
-    front_stores _ _ _ _ _ _ _ _ versioned.requires versioned.flags_of-flags.ensures.0 (versioned.wide-version.ensures.0 ∙ versioned.version.ensures) versioned.wide-version.ensures.1 signature.put_signature.ensures flags.put_u32.ensures page.put_u32-2.ensures original.put_u64.ensures address.put_address.ensures size.put_u64-2.ensures
+    front_stores _ _ _ _ _ _ _ _ c.requires c.flags_of-flags.ensures.0 (c.wide-version.ensures.0 ∙ c.version.ensures) c.wide-version.ensures.1 c.put_signature.ensures c.put_u32.ensures c.put_u32-2.ensures c.put_u64.ensures c.put_address.ensures c.put_u64-2.ensures

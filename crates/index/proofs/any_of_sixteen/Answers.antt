@@ -4,8 +4,5 @@ use Rattle.index.proofs.any_of_sixteen.Goals as goal
 
 pub returns : goal.returns
 returns c =
-    let third = c in
-    let second = third in
-    let first = second in
-    let a = first.args in
-    λ h. four_blocks a.pages.now a.page a.at _ _ _ _ first.any_of_four-first.ensures second.any_of_four-second.ensures third.any_of_four-third.ensures c.any_of_four-fourth.ensures h
+    let a = c.args in
+    λ h. four_blocks a.pages.now a.page a.at _ _ _ _ c.any_of_four-first.ensures c.any_of_four-second.ensures c.any_of_four-third.ensures c.any_of_four-fourth.ensures h

@@ -5,17 +5,12 @@ use Rattle.index.proofs.entry.Goals as goal
 
 pub entries_width-requires : goal.entries_width-requires
 entries_width-requires c =
-    let s = c in
-    omega (arith, entries-within s.args.x.form s.args.place s.args.x.entries s.requires.1)
+    omega (arith, entries-within c.args.x.form c.args.place c.args.x.entries c.requires.1)
 
 pub overflow_add-x : goal.overflow_add-x
 overflow_add-x c =
-    let e = c in
-    let s = e in
-    omega (arith, e.entries_width.ensures, entries-within s.args.x.form s.args.place s.args.x.entries s.requires.1)
+    omega (arith, c.entries_width.ensures, entries-within c.args.x.form c.args.place c.args.x.entries c.requires.1)
 
 pub entry_at-requires : goal.entry_at-requires
 entry_at-requires c =
-    let e = c in
-    let s = e in
-    omega (arith, e.entries_width.ensures, entries-within s.args.x.form s.args.place s.args.x.entries s.requires.1)
+    omega (arith, c.entries_width.ensures, entries-within c.args.x.form c.args.place c.args.x.entries c.requires.1)

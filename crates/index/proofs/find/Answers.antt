@@ -19,17 +19,14 @@ long c = length-logicals_entries _ _ _ _
 
 pub returns-then-logical-page : goal.returns-then-logical-page
 returns-then-logical-page c =
-    let g = c in
     let l = long (goal.at.returns-then-logical-page c).After-struct_known-1 in
-    (search_hit g.place_from-place.ensures (omega arith) (sym c.logical.ensures ∙ c.if-logical-page.true), omega arith)
+    (search_hit c.place_from-place.ensures (omega arith) (sym c.logical.ensures ∙ c.if-logical-page.true), omega arith)
 
 pub returns-else-logical-page : goal.returns-else-logical-page
 returns-else-logical-page c =
-    let g = c in
-    (sym (long (goal.at.returns-else-logical-page c).After-struct_known-1) ∙ search_miss g.place_from-place.ensures g.requires.rising (λ h e. c.if-logical-page.false (c.logical.ensures ∙ e)), omega arith)
+    (sym (long (goal.at.returns-else-logical-page c).After-struct_known-1) ∙ search_miss c.place_from-place.ensures c.requires.rising (λ h e. c.if-logical-page.false (c.logical.ensures ∙ e)), omega arith)
 
 pub returns-else-place-x : goal.returns-else-place-x
 returns-else-place-x c =
-    let g = c in
     let l = long (goal.at.returns-else-place-x c).After-struct_known-1 in
-    (sym l ∙ search_miss g.place_from-place.ensures g.requires.rising (λ h e. omega arith), omega arith)
+    (sym l ∙ search_miss c.place_from-place.ensures c.requires.rising (λ h e. omega arith), omega arith)

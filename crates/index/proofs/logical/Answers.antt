@@ -12,18 +12,12 @@ entries_width-requires c =
 
 pub overflow_add-x : goal.overflow_add-x
 overflow_add-x c =
-    let e = c in
-    let s = e in
-    omega (arith, e.entries_width.ensures, entries-within s.args.x.form s.args.place s.args.x.entries s.requires.1)
+    omega (arith, c.entries_width.ensures, entries-within c.args.x.form c.args.place c.args.x.entries c.requires.1)
 
 pub get_u64-requires : goal.get_u64-requires
 get_u64-requires c =
-    let e = c in
-    let s = e in
-    omega (arith, e.entries_width.ensures, entries-within s.args.x.form s.args.place s.args.x.entries s.requires.1, entry-least s.args.x.form)
+    omega (arith, c.entries_width.ensures, entries-within c.args.x.form c.args.place c.args.x.entries c.requires.1, entry-least c.args.x.form)
 
 pub returns : goal.returns
 returns c =
-    let e = c in
-    let s = e in
-    c.get_u64.ensures ∙ rw e.entries_width.ensures (sym (logical_entries s.args.x.form s.args.history.now s.args.x.at s.args.x.entries s.args.place s.requires.1))
+    c.get_u64.ensures ∙ rw c.entries_width.ensures (sym (logical_entries c.args.x.form c.args.history.now c.args.x.at c.args.x.entries c.args.place c.requires.1))

@@ -5,8 +5,7 @@ use Rattle.index.proofs.own_place.Goals as goal
 
 pub returns-then-pages-place : goal.returns-then-pages-place
 returns-then-pages-place c =
-    let l = c in
-    (own_hit _ _ l.requires _ _ c.loop-place-test.true l.loop-place.invariant.1 c.if-pages-place.true, omega arith)
+    (own_hit _ _ c.requires _ _ c.loop-place-test.true c.loop-place.invariant.1 c.if-pages-place.true, omega arith)
 
 pub returns : goal.returns
 returns c = (own_miss _ _ c.requires _ _ c.loop-place-test.false c.loop-place.invariant.1, omega arith)

@@ -23,13 +23,11 @@ logical-requires c = (c.requires.entries_in_bounds, omega (arith, within (goal.a
 
 pub loop-low-preserved-then-logical-address : goal.loop-low-preserved-then-logical-address
 loop-low-preserved-then-logical-address c =
-    let h = c in
-    part_upper h.requires.rising h.loop-low.invariant (middle (goal.at.loop-low-preserved-then-logical-address c).At-loop-low) (omega arith) (omega arith) c.logical.ensures c.if-logical-address.true
+    part_upper c.requires.rising c.loop-low.invariant (middle (goal.at.loop-low-preserved-then-logical-address c).At-loop-low) (omega arith) (omega arith) c.logical.ensures c.if-logical-address.true
 
 pub loop-low-preserved : goal.loop-low-preserved
 loop-low-preserved c =
-    let h = c in
-    part_lower h.requires.rising h.loop-low.invariant (middle (goal.at.loop-low-preserved c).At-loop-low) (omega arith) (omega arith) c.logical.ensures c.if-logical-address.false
+    part_lower c.requires.rising c.loop-low.invariant (middle (goal.at.loop-low-preserved c).At-loop-low) (omega arith) (omega arith) c.logical.ensures c.if-logical-address.false
 
 pub returns : goal.returns
 returns c = part_end c.loop-low.invariant c.loop-low-test.false

@@ -9,13 +9,11 @@ put_u64-requires c = omega (arith, entry-least c.args.form)
 
 pub put_address-requires : goal.put_address-requires
 put_address-requires c =
-    let start = c in
-    omega (arith, entry-least start.args.form)
+    omega (arith, entry-least c.args.form)
 
 pub fletcher32_sixteen-sum-requires : goal.fletcher32_sixteen-sum-requires
 fletcher32_sixteen-sum-requires c =
-    let start = c in
-    omega (arith, entry-least start.args.form)
+    omega (arith, entry-least c.args.form)
 
 pub returns : goal.returns
 returns c =

@@ -8,10 +8,8 @@ loop-k-init c = (omega arith, rising-start c.args.pages.now)
 
 pub loop-k-preserved : goal.loop-k-preserved
 loop-k-preserved c =
-    let l = c in
-    (omega arith, rising_turn l.args.pages.now l.loop-k.k l.loop-k.invariant.0 l.loop-k.invariant.1 c.if-pages-k.false)
+    (omega arith, rising_turn c.args.pages.now c.loop-k.k c.loop-k.invariant.0 c.loop-k.invariant.1 c.if-pages-k.false)
 
 pub returns : goal.returns
 returns c =
-    let l = c in
-    λ h. rising-end l.args.pages.now l.args.n l.loop-k.k l.requires c.loop-k-test.false l.loop-k.invariant.1
+    λ h. rising-end c.args.pages.now c.args.n c.loop-k.k c.requires c.loop-k-test.false c.loop-k.invariant.1

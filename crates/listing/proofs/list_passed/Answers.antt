@@ -8,10 +8,9 @@ use Rattle.listing.proofs.list_passed.Goals as goal
 
 pub returns-then-out-total : goal.returns-then-out-total
 returns-then-out-total c =
-    let begin = c in
-    let a = begin.args in
+    let a = c.args in
     let lines = setting_line a.s ++ record_lines a.history.now a.s 1 a.s.count in
-    record { text = fitted_not _ lines (lines_long _ _ c.setting_length.ensures.0 begin.requires.1.all) c.if-out-total.true; short = search rules }
+    record { text = fitted_not _ lines (lines_long _ _ c.setting_length.ensures.0 c.requires.1.all) c.if-out-total.true; short = search rules }
 
 pub returns : goal.returns
 returns c =

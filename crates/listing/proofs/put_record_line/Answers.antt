@@ -32,10 +32,9 @@ put_run-requires c =
 
 pub overflow_add-result : goal.overflow_add-result
 overflow_add-result c =
-    let begin = c in
     let time = c.time_at-time in
     let name = c.name_at-name in
-    omega (arith, room-newline time.result name.result (time.ensures.0 _) name.ensures begin.requires c.put_numbers-next.ensures c.put_text-next.ensures c.put_numbers-next-2.ensures c.put_text-next-2.ensures)
+    omega (arith, room-newline time.result name.result (time.ensures.0 _) name.ensures c.requires c.put_numbers-next.ensures c.put_text-next.ensures c.put_numbers-next-2.ensures c.put_text-next-2.ensures)
 
 pub returns : goal.returns
 returns c =

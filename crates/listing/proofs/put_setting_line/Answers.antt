@@ -27,6 +27,4 @@ overflow_add-result c = omega (arith, setting_long c.args.s, c)
 
 pub returns : goal.returns
 returns c =
-    let lock = c in
-    let page = lock in
-    setting-written _ (search rules) page.put_number-page.ensures c.put_number-original.ensures c.put_number-count.ensures lock.put_flag-lock.ensures c.put_flag-branch.ensures c.put_run.ensures
+    setting-written _ (search rules) c.put_number-page.ensures c.put_number-original.ensures c.put_number-count.ensures c.put_flag-lock.ensures c.put_flag-branch.ensures c.put_run.ensures

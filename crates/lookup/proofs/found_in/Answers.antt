@@ -11,27 +11,22 @@ returns-then-look_up_outside c =
 
 pub returns-then-original-address : goal.returns-then-original-address
 returns-then-original-address c =
-    let found = c in
-    let a = found.args in
-    record { value = found_nowhere _ _ a.v.index a.size a.address found.look_up_outside.ensures found.if-look_up_outside.false found.find-place.ensures.0 found.below-length.ensures c.if-x-place.true c.if-original-address.true c.refused-then-original-address.ensures; lies = refused_lies _ _ _ c.refused-then-original-address.ensures }
+    let a = c.args in
+    record { value = found_nowhere _ _ a.v.index a.size a.address c.look_up_outside.ensures c.if-look_up_outside.false c.find-place.ensures.0 c.below-length.ensures c.if-x-place.true c.if-original-address.true c.refused-then-original-address.ensures; lies = refused_lies _ _ _ c.refused-then-original-address.ensures }
 
 pub returns-then-x-place : goal.returns-then-x-place
 returns-then-x-place c =
-    let found = c in
-    let a = found.args in
-    record { value = found-original _ _ a.v.index a.size a.address found.look_up_outside.ensures found.if-look_up_outside.false found.find-place.ensures.0 found.below-length.ensures c.if-x-place.true c.if-original-address.false; lies = record { within = c.if-original-address.false } }
+    let a = c.args in
+    record { value = found-original _ _ a.v.index a.size a.address c.look_up_outside.ensures c.if-look_up_outside.false c.find-place.ensures.0 c.below-length.ensures c.if-x-place.true c.if-original-address.false; lies = record { within = c.if-original-address.false } }
 
 pub returns-then-page_wrong : goal.returns-then-page_wrong
 returns-then-page_wrong c =
-    let found = c in
-    let a = found.args in
-    record { value = found_damaged _ _ a.v.index a.size a.address found.look_up_outside.ensures found.if-look_up_outside.false found.find-place.ensures.0 found.below-length.ensures c.if-x-place.false c.page_wrong.ensures c.if-page_wrong.true c.refused-then-page_wrong.ensures; lies = refused_lies _ _ _ c.refused-then-page_wrong.ensures }
+    let a = c.args in
+    record { value = found_damaged _ _ a.v.index a.size a.address c.look_up_outside.ensures c.if-look_up_outside.false c.find-place.ensures.0 c.below-length.ensures c.if-x-place.false c.page_wrong.ensures c.if-page_wrong.true c.refused-then-page_wrong.ensures; lies = refused_lies _ _ _ c.refused-then-page_wrong.ensures }
 
 pub returns : goal.returns
 returns c =
-    let found = c in
-    let s = found in
-    let a = s.args in
-    let length = found.below-length.ensures in
+    let a = c.args in
+    let length = c.below-length.ensures in
     let there = c.if-x-place.false in
-    record { value = found-stored _ _ a.v.index a.size a.address found.look_up_outside.ensures found.if-look_up_outside.false found.find-place.ensures.0 length there c.page_wrong.ensures c.if-page_wrong.false c.entry-e.ensures; lies = record { within = omega (arith, length, entry-room _ a.v s.requires.0 _ there c.entry-e.ensures) } }
+    record { value = found-stored _ _ a.v.index a.size a.address c.look_up_outside.ensures c.if-look_up_outside.false c.find-place.ensures.0 length there c.page_wrong.ensures c.if-page_wrong.false c.entry-e.ensures; lies = record { within = omega (arith, length, entry-room _ a.v c.requires.0 _ there c.entry-e.ensures) } }

@@ -5,5 +5,4 @@ use Rattle.numbers.proofs.put_u64.Goals as goal
 
 pub returns : goal.returns
 returns c =
-    let d = c in
-    put_twice 4 4 _ _ _ _ _ (search rules) d.put_u32.ensures d.put_u32-2.ensures
+    put_twice 4 4 _ _ _ _ _ (search rules) c.put_u32.ensures c.put_u32-2.ensures

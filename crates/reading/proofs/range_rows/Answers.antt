@@ -10,9 +10,8 @@ returns-then-read_outside c = record { number = row-holds 10 _ (omega arith) c.r
 
 pub range_wrong-requires : goal.range_wrong-requires
 range_wrong-requires c =
-    let begin = c in
-    let p = begin.requires in
-    let a = begin.args in
+    let p = c.requires in
+    let a = c.args in
     (p.0, p.1, omega (arith, inside_fits a.size a.at a.n (sym c.read_outside.ensures ∙ c.if-read_outside.false), p.2))
 
 pub returns-then-range_wrong : goal.returns-then-range_wrong

@@ -7,8 +7,7 @@ pub returns-then-k-eq0 : goal.returns-then-k-eq0
 returns-then-k-eq0 c =
     let none = c.no_record.ensures in
     let zero = c.if-k-eq0.true in
-    let begin = c in
-    record { number = rows_none _ _ _ zero; sound = λ z. record { sound = begin.requires.0; known = begin.requires.1; found = none_is _ _ _ zero none; right = none-sound _ _ begin.requires.0 none } }
+    record { number = rows_none _ _ _ zero; sound = λ z. record { sound = c.requires.0; known = c.requires.1; found = none_is _ _ _ zero none; right = none-sound _ _ c.requires.0 none } }
 
 pub returns-then-apart : goal.returns-then-apart
 returns-then-apart c =
@@ -18,13 +17,11 @@ returns-then-apart c =
 pub number_of-number-requires : goal.number_of-number-requires
 number_of-number-requires c =
     let lies = c.apart.ensures.0 c.if-apart.false in
-    let begin = c in
-    (begin.requires.0, omega (arith, lies.0, lies.1, begin.requires.0.inside, record_address _ _ _ _ c.record_at-record.ensures))
+    (c.requires.0, omega (arith, lies.0, lies.1, c.requires.0.inside, record_address _ _ _ _ c.record_at-record.ensures))
 
 pub returns : goal.returns
 returns c =
     let place = c.location_of-place.ensures in
     let read = c.record_at-record.ensures in
     let number = c.number_of-number.ensures in
-    let begin = c in
-    record { number = rows_of _ _ _ (omega arith) place.0 place.1 read number; sound = λ z. record { sound = begin.requires.0; known = begin.requires.1; found = is_record _ _ _ (omega arith) place.0 place.1 read; right = rows-sound _ _ _ _ number z } }
+    record { number = rows_of _ _ _ (omega arith) place.0 place.1 read number; sound = λ z. record { sound = c.requires.0; known = c.requires.1; found = is_record _ _ _ (omega arith) place.0 place.1 read; right = rows-sound _ _ _ _ number z } }

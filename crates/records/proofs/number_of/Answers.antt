@@ -11,11 +11,10 @@ returns-then-record_wrong c = row-holds 7 _ (omega arith) c.record_wrong.ensures
 
 pub record_sum_wrong-requires : goal.record_sum_wrong-requires
 record_sum_wrong-requires c =
-    let begin = c in
-    let r = begin.args.r in
+    let r = c.args.r in
     let w = (record-right _ _ _ _ (sym c.record_wrong.ensures ∙ c.if-record_wrong.false)).lies in
-    let p = begin.requires.0 in
-    let e = end-behind begin.args.s.form r.address r.size in
+    let p = c.requires.0 in
+    let e = end-behind c.args.s.form r.address r.size in
     (omega (arith, w.ends, e, p.inside), omega (arith, w.ends, w.sized, e, p.inside), p.short, omega (arith, w.sized))
 
 pub returns-then-record_sum_wrong : goal.returns-then-record_sum_wrong

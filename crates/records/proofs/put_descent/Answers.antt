@@ -12,6 +12,5 @@ put_run-requires c = omega (arith, count-least c.args.form, c.requires.0, c.requ
 
 pub returns : goal.returns
 returns c =
-    let begin = c in
-    let a = begin.args in
-    descent-laid a.form a.r _ _ _ _ _ begin.requires.0 c.put_start.ensures c.put_u64.ensures c.put_run.ensures
+    let a = c.args in
+    descent-laid a.form a.r _ _ _ _ _ c.requires.0 c.put_start.ensures c.put_u64.ensures c.put_run.ensures

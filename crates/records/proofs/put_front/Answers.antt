@@ -12,13 +12,5 @@ put_u32-requires c = omega (arith, count-least c.args.form, c.requires.0)
 
 pub returns : goal.returns
 returns c =
-    let comment = c in
-    let name = comment in
-    let entries = name in
-    let user = entries in
-    let page = user in
-    let logical = page in
-    let descent = logical in
-    let begin = descent in
-    let a = begin.args in
-    front-laid a.form a.r _ begin.requires.1 _ _ _ _ _ _ _ _ _ begin.requires.0 (rw descent.entry_count_at.ensures) descent.put_descent.ensures logical.put_u64.ensures page.put_u32.ensures user.put_user.ensures entries.put_u64-2.ensures name.put_u32-2.ensures comment.put_u32-3.ensures
+    let a = c.args in
+    front-laid a.form a.r _ c.requires.1 _ _ _ _ _ _ _ _ _ c.requires.0 (rw c.entry_count_at.ensures) c.put_descent.ensures c.put_u64.ensures c.put_u32.ensures c.put_user.ensures c.put_u64-2.ensures c.put_u32-2.ensures c.put_u32-3.ensures

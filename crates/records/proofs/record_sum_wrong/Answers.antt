@@ -6,13 +6,12 @@ use Rattle.records.proofs.record_sum_wrong.Goals as goal
 
 pub sums_stand-requires : goal.sums_stand-requires
 sums_stand-requires c =
-    let begin = c in
-    let a = begin.args in
+    let a = c.args in
     let w = c.entry_width-width.ensures in
     let f = c.front_width.ensures in
     let least = entry-least a.form in
     let product = entries_product a.form a.r.entries in
-    (rw w (omega (arith, f, product, begin.requires.1)), begin.requires.2, omega (arith, w), omega (arith, w, c.entry_sum_at.ensures))
+    (rw w (omega (arith, f, product, c.requires.1)), c.requires.2, omega (arith, w), omega (arith, w, c.entry_sum_at.ensures))
 
 pub returns : goal.returns
 returns c =

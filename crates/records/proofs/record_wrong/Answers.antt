@@ -17,11 +17,10 @@ returns-then-not-record_fields c = wrong_fields _ _ _ _ (sym c.record_lies.ensur
 
 pub entries_right-requires : goal.entries_right-requires
 entries_right-requires c =
-    let begin = c in
-    let a = begin.args in
+    let a = c.args in
     let l = lies_facts _ _ (sym c.record_lies.ensures ∙ not-false _ (ap not c.if-not-record_lies.false)) in
     let g = fields_logical _ _ _ _ (sym c.record_fields.ensures ∙ not-false _ (ap not c.if-not-record_fields.false)) in
-    let w = begin.requires.0 in
+    let w = c.requires.0 in
     (w.paged, w.allowed, omega (arith, l.ends, l.sized, w.inside, end-behind a.s.form a.r.address a.r.size), g.1)
 
 pub returns-then-not-entries_right : goal.returns-then-not-entries_right
@@ -29,10 +28,9 @@ returns-then-not-entries_right c = wrong_entries _ _ _ _ (sym c.record_lies.ensu
 
 pub texts_right-requires : goal.texts_right-requires
 texts_right-requires c =
-    let begin = c in
-    let a = begin.args in
+    let a = c.args in
     let l = lies_facts _ _ (sym c.record_lies.ensures ∙ not-false _ (ap not c.if-not-record_lies.false)) in
-    let w = begin.requires.0 in
+    let w = c.requires.0 in
     (omega (arith, l.ends, l.sized, w.inside, end-behind a.s.form a.r.address a.r.size), w.short, l.few)
 
 pub returns : goal.returns

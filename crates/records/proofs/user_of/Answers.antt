@@ -5,7 +5,7 @@ use Rattle.rules.proofs.Places.{count-least}
 use Rattle.records.proofs.user_of.Goals as goal
 
 pub get_u32-requires : goal.get_u32-requires
-get_u32-requires c = let s = c in omega (arith, count-least s.args.form, s.requires.0)
+get_u32-requires c = omega (arith, count-least c.args.form, c.requires.0)
 
 pub returns : goal.returns
 unfolding user_at

@@ -12,8 +12,7 @@ returns-then-revision_unknown c =
 
 pub judge-judged-requires : goal.judge-judged-requires
 judge-judged-requires c =
-    let begin = c in
-    (begin.requires, asked_is _ _ c.asked.ensures (sym c.revision_unknown.ensures ∙ c.if-revision_unknown.false))
+    (c.requires, asked_is _ _ c.asked.ensures (sym c.revision_unknown.ensures ∙ c.if-revision_unknown.false))
 
 pub returns : goal.returns
 returns c =

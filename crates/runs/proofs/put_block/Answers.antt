@@ -5,6 +5,5 @@ use Rattle.runs.proofs.put_block.Goals as goal
 
 pub returns : goal.returns
 returns c =
-    let held = c in
-    let a = held.args in
-    laid-held _ _ _ _ _ _ a.n (length_part a.run.now a.from a.n (omega arith)) (omega arith) held.put_each.ensures c.put_each-2.ensures
+    let a = c.args in
+    laid-held _ _ _ _ _ _ a.n (length_part a.run.now a.from a.n (omega arith)) (omega arith) c.put_each.ensures c.put_each-2.ensures

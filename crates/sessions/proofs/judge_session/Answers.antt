@@ -15,9 +15,8 @@ returns-then-session_wrong c =
 
 pub judge-parent-requires : goal.judge-parent-requires
 judge-parent-requires c =
-    let begin = c in
     let w = session-right _ _ _ (sym c.session_wrong.ensures ∙ c.if-session_wrong.false) in
-    (begin.requires, omega (arith, w.parent, w.count))
+    (c.requires, omega (arith, w.parent, w.count))
 
 pub returns-then-parent-ne0 : goal.returns-then-parent-ne0
 unfolding session_rows

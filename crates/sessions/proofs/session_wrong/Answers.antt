@@ -12,15 +12,13 @@ returns-then-not-fitting c =
 
 pub overflow_mul-st : goal.overflow_mul-st
 overflow_mul-st c =
-    let begin = c in
-    let w = numbers-right 0 begin.args.s begin.args.st c.end_of.ensures (ap not c.if-not-fitting.false) in
-    omega (arith, pages-short w.touched begin.requires.paged.most)
+    let w = numbers-right 0 c.args.s c.args.st c.end_of.ensures (ap not c.if-not-fitting.false) in
+    omega (arith, pages-short w.touched c.requires.paged.most)
 
 pub overflow_add-st : goal.overflow_add-st
 overflow_add-st c =
-    let begin = c in
-    let w = numbers-right 0 begin.args.s begin.args.st c.end_of.ensures (ap not c.if-not-fitting.false) in
-    omega (arith, pages-short w.touched begin.requires.paged.most, w.end, begin.requires.ends, begin.requires.short)
+    let w = numbers-right 0 c.args.s c.args.st c.end_of.ensures (ap not c.if-not-fitting.false) in
+    omega (arith, pages-short w.touched c.requires.paged.most, w.end, c.requires.ends, c.requires.short)
 
 pub returns-then-history-st : goal.returns-then-history-st
 returns-then-history-st c =
@@ -29,9 +27,8 @@ returns-then-history-st c =
 
 pub pages_fit-requires : goal.pages_fit-requires
 pages_fit-requires c =
-    let begin = c in
-    let w = numbers-right 0 begin.args.s begin.args.st c.end_of.ensures (ap not c.if-not-fitting.false) in
-    (omega (arith, w.touched), begin.requires.allowed)
+    let w = numbers-right 0 c.args.s c.args.st c.end_of.ensures (ap not c.if-not-fitting.false) in
+    (omega (arith, w.touched), c.requires.allowed)
 
 pub returns : goal.returns
 returns c =

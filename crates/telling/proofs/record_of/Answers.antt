@@ -7,21 +7,15 @@ returns-then-judged-ne0 c = record_refused _ _ c.judge_alone-judged.ensures.numb
 
 pub returns-then-k-eq0 : goal.returns-then-k-eq0
 returns-then-k-eq0 c =
-    let asks = c in
-    let passed = asks in
-    let judged = passed.judge_alone-judged.ensures in
-    original_tells _ _ judged.number passed.if-judged-ne0.false (judged.standing passed.if-judged-ne0.false) asks.asked-k.ensures c.if-k-eq0.true c.length_told-then-k-eq0.ensures
+    let judged = c.judge_alone-judged.ensures in
+    original_tells _ _ judged.number c.if-judged-ne0.false (judged.standing c.if-judged-ne0.false) c.asked-k.ensures c.if-k-eq0.true c.length_told-then-k-eq0.ensures
 
 pub record_told-requires : goal.record_told-requires
 record_told-requires c =
-    let asks = c in
-    let passed = asks in
-    let judged = passed.judge_alone-judged.ensures in
-    record-room _ _ judged.number passed.if-judged-ne0.false (judged.standing passed.if-judged-ne0.false) asks.asked-k.ensures c.if-k-eq0.false
+    let judged = c.judge_alone-judged.ensures in
+    record-room _ _ judged.number c.if-judged-ne0.false (judged.standing c.if-judged-ne0.false) c.asked-k.ensures c.if-k-eq0.false
 
 pub returns : goal.returns
 returns c =
-    let asks = c in
-    let passed = asks in
-    let judged = passed.judge_alone-judged.ensures in
-    record_tells _ _ judged.number passed.if-judged-ne0.false (judged.standing passed.if-judged-ne0.false) asks.asked-k.ensures c.record_told.ensures
+    let judged = c.judge_alone-judged.ensures in
+    record_tells _ _ judged.number c.if-judged-ne0.false (judged.standing c.if-judged-ne0.false) c.asked-k.ensures c.record_told.ensures

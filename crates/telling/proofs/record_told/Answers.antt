@@ -6,12 +6,10 @@ use Rattle.telling.proofs.record_told.Goals as goal
 
 pub overflow_add-result : goal.overflow_add-result
 overflow_add-result c =
-    let s = c in
-    let f = s.args.form in
-    omega (arith, c.name_at-name.ensures, entries-most f s.args.r.entries s.requires.3, count_most f, s.requires.1, s.requires.2, s.requires.4)
+    let f = c.args.form in
+    omega (arith, c.name_at-name.ensures, entries-most f c.args.r.entries c.requires.3, count_most f, c.requires.1, c.requires.2, c.requires.4)
 
 pub returns : goal.returns
 returns c =
-    let s = c in
-    let a = s.args in
-    fields_told a.history.now a.form a.k a.r s.requires.0 c.user_of.ensures c.time_at.ensures.2 c.name_at-name.ensures
+    let a = c.args in
+    fields_told a.history.now a.form a.k a.r c.requires.0 c.user_of.ensures c.time_at.ensures.2 c.name_at-name.ensures

@@ -9,10 +9,10 @@ pub loop-i-init : goal.loop-i-init
 loop-i-init c = digits-start _ _ _
 
 pub returns-then-not-within : goal.returns-then-not-within
-returns-then-not-within c = let l = c in digits-fault l.loop-i.invariant (search rules) (search rules) c.wide.ensures.0 c.within.ensures (ap not c.if-not-within.true)
+returns-then-not-within c = digits-fault c.loop-i.invariant (search rules) (search rules) c.wide.ensures.0 c.within.ensures (ap not c.if-not-within.true)
 
 pub loop-i-preserved : goal.loop-i-preserved
-loop-i-preserved c = let l = c in digits_turn l.loop-i.invariant (search rules) (search rules) c.wide.ensures.0 c.within.ensures (ap not c.if-not-within.false)
+loop-i-preserved c = digits_turn c.loop-i.invariant (search rules) (search rules) c.wide.ensures.0 c.within.ensures (ap not c.if-not-within.false)
 
 pub returns : goal.returns
 returns c = digits-end c.loop-i.invariant (search rules)

@@ -12,10 +12,10 @@ pub loop-i-init : goal.loop-i-init
 loop-i-init c = (search rules, text-start _ c.if-n-eq0.false)
 
 pub returns-then-not-within : goal.returns-then-not-within
-returns-then-not-within c = let l = c in text-fault l.loop-i.invariant.1 (search rules) c.wide.ensures.0 c.within.ensures (ap not c.if-not-within.true)
+returns-then-not-within c = text-fault c.loop-i.invariant.1 (search rules) c.wide.ensures.0 c.within.ensures (ap not c.if-not-within.true)
 
 pub loop-i-preserved : goal.loop-i-preserved
-loop-i-preserved c = let l = c in (l.loop-i.invariant.0, text_turn l.loop-i.invariant.1 (search rules) c.wide.ensures.0 c.within.ensures (ap not c.if-not-within.false))
+loop-i-preserved c = (c.loop-i.invariant.0, text_turn c.loop-i.invariant.1 (search rules) c.wide.ensures.0 c.within.ensures (ap not c.if-not-within.false))
 
 pub returns : goal.returns
 returns c = text-end _ c.loop-i.invariant.1 (search rules) (search rules)

@@ -20,53 +20,42 @@ use Rattle.touching.proofs.count_pages.Goals.{After-new_pages-some, At-loop-k, T
 -- Pages of the write end where a sum does not wrap.
 room : (c : At-loop-k) (j : ℕ) → c.loop-k.k + j ≤ c.pages_in-m.result → c.loop-k.a + j * c.args.x.form.page ≤ farthest
 room c j l =
-    let s = c in
-    let p = s.requires.before_value.2 in
-    omega (arith, counting-room c.loop-k.invariant j l, range-room _ s.args.offset s.args.len c.pages_in-m.ensures s.requires.before_value.3 p.least p.most)
+    let p = c.requires.before_value.2 in
+    omega (arith, counting-room c.loop-k.invariant j l, range-room _ c.args.offset c.args.len c.pages_in-m.ensures c.requires.before_value.3 p.least p.most)
 
 none : (c : Then-n-own_place)
-    → let head = c in
-    let a = head.args in
-    has (take a.n a.pages.now) head.loop-k.a ≡ false
+    → let a = c.args in
+    has (take a.n a.pages.now) c.loop-k.a ≡ false
 none c = own-missing _ _ _ c.requires.entries_in_bounds.2 c.own_place.ensures.0 c.if-n-own_place.true
 
 -- The run ends within the write's pages, and with at most one page too many.
 run : (c : After-new_pages-some)
-    → let head = c in
-    let a = head.args in
-    let l = head.loop-k in
+    → let a = c.args in
+    let l = c.loop-k in
     let index = entries_in a.history.now a.x in
     let some = c.new_pages-some.result in
     let p = a.x.form.page in
-    Counting index (take a.n a.pages.now) p (page_of p a.offset) head.pages_in-m.result (l.a + some * p) (l.k + some) (l.touched + some) (l.merged + missing index p l.a some)
+    Counting index (take a.n a.pages.now) p (page_of p a.offset) c.pages_in-m.result (l.a + some * p) (l.k + some) (l.touched + some) (l.merged + missing index p l.a some)
 run c =
-    let few = c in
-    let head = few in
-    let s = head in
     let n = c.new_pages-some.ensures in
     let most = c.least-most.ensures in
-    counting_run _ _ _ _ head.loop-k.invariant s.requires.entries_in_bounds.1 (omega (arith, s.requires.before_value.2.least)) c.new_pages-some.result (omega (arith, most, n.1, few.loop-k-test.true)) (omega (arith, most, n.1, few.if-touched.false)) n.2
+    counting_run _ _ _ _ c.loop-k.invariant c.requires.entries_in_bounds.1 (omega (arith, c.requires.before_value.2.least)) c.new_pages-some.result (omega (arith, most, n.1, c.loop-k-test.true)) (omega (arith, most, n.1, c.if-touched.false)) n.2
 
 pub loop-k-init : goal.loop-k-init
 loop-k-init c =
-    let s = c in
-    counting-start _ _ _ _ _ (omega (arith, length-take-le s.args.n s.args.pages.now s.requires.entries_in_bounds.2)) s.requires.entries_in_bounds.3 s.requires.before_value.0 s.requires.before_value.1
+    counting-start _ _ _ _ _ (omega (arith, length-take-le c.args.n c.args.pages.now c.requires.entries_in_bounds.2)) c.requires.entries_in_bounds.3 c.requires.before_value.0 c.requires.before_value.1
 
 pub returns-then-touched : goal.returns-then-touched
 returns-then-touched c = rw (← c.pages_in-m.ensures) (counted_past c.loop-k.invariant (search rules))
 
 pub new_pages-some-requires : goal.new_pages-some-requires
 new_pages-some-requires c =
-    let few = c in
-    let head = few in
     let most = c.least-most.ensures in
-    (head.requires.entries_in_bounds.2, none (goal.at.new_pages-some-requires c).Then-n-own_place, omega (arith, most, few.loop-k-test.true, few.if-touched.false), room (goal.at.new_pages-some-requires c).At-loop-k c.least-most.result (omega (arith, most, few.loop-k-test.true)))
+    (c.requires.entries_in_bounds.2, none (goal.at.new_pages-some-requires c).Then-n-own_place, omega (arith, most, c.loop-k-test.true, c.if-touched.false), room (goal.at.new_pages-some-requires c).At-loop-k c.least-most.result (omega (arith, most, c.loop-k-test.true)))
 
 pub missing_pages-merged-requires : goal.missing_pages-merged-requires
 missing_pages-merged-requires c =
-    let head = c in
-    let s = head in
-    (s.requires.entries_in_bounds.0, s.requires.entries_in_bounds.1, s.requires.before_value.2, room (goal.at.missing_pages-merged-requires c).At-loop-k c.new_pages-some.result (run (goal.at.missing_pages-merged-requires c).After-new_pages-some).within)
+    (c.requires.entries_in_bounds.0, c.requires.entries_in_bounds.1, c.requires.before_value.2, room (goal.at.missing_pages-merged-requires c).At-loop-k c.new_pages-some.result (run (goal.at.missing_pages-merged-requires c).After-new_pages-some).within)
 
 pub overflow_add-merged : goal.overflow_add-merged
 overflow_add-merged c = let r = run (goal.at.overflow_add-merged c).After-new_pages-some in omega (arith, c.missing_pages-merged.ensures, r.less, r.few)
@@ -78,13 +67,11 @@ pub loop-k-preserved-then-n-own_place : goal.loop-k-preserved-then-n-own_place
 loop-k-preserved-then-n-own_place c = rw c.missing_pages-merged.ensures (run (goal.at.loop-k-preserved-then-n-own_place c).After-new_pages-some)
 
 pub overflow_add-a-else-n-own_place : goal.overflow_add-a-else-n-own_place
-overflow_add-a-else-n-own_place c = let few = c in omega (arith, room (goal.at.overflow_add-a-else-n-own_place c).At-loop-k 1 (omega (arith, few.loop-k-test.true)), one-mul few.args.x.form.page)
+overflow_add-a-else-n-own_place c = omega (arith, room (goal.at.overflow_add-a-else-n-own_place c).At-loop-k 1 (omega (arith, c.loop-k-test.true)), one-mul c.args.x.form.page)
 
 pub loop-k-preserved : goal.loop-k-preserved
 loop-k-preserved c =
-    let turn = c in
-    let s = turn in
-    counting_own _ _ _ _ turn.loop-k.invariant turn.loop-k-test.true s.requires.entries_in_bounds.1 (omega (arith, s.requires.before_value.2.least)) (own-there _ _ _ s.requires.entries_in_bounds.2 c.own_place.ensures.0 c.if-n-own_place.false)
+    counting_own _ _ _ _ c.loop-k.invariant c.loop-k-test.true c.requires.entries_in_bounds.1 (omega (arith, c.requires.before_value.2.least)) (own-there _ _ _ c.requires.entries_in_bounds.2 c.own_place.ensures.0 c.if-n-own_place.false)
 
 pub returns : goal.returns
 returns c = rw (← c.pages_in-m.ensures) (counted-end c.loop-k.invariant c.loop-k-test.false)

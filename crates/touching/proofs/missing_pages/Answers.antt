@@ -15,10 +15,8 @@ long c = let x = c.args.x in length-logicals_entries x.form c.args.history.now x
 
 -- The next entry lies ahead of their end, so the pages ahead of it are some of them.
 within : (c : Then-here-next)
-    → let read = c in
-    let head = read in
-    let a = head.args in
-    head.loop-k.k + ahead a.x.form.page a.first head.loop-k.k read.logical-next.result c.if-here-next.true ≤ a.m
+    → let a = c.args in
+    c.loop-k.k + ahead a.x.form.page a.first c.loop-k.k c.logical-next.result c.if-here-next.true ≤ a.m
 within c = let a = c.args in ahead_within a.x.form.page a.first _ _ c.if-here-next.true a.m c.if-end-next.false
 
 pub loop-k-init : goal.loop-k-init
@@ -26,33 +24,21 @@ loop-k-init c = passing-start _ _ _ _ c.place_from-place.ensures
 
 pub returns-then-x-place : goal.returns-then-x-place
 returns-then-x-place c =
-    let s = c in
-    passing_rest s.loop-k.invariant s.requires.1 (omega (arith, s.requires.2.least)) (λ h. absurd (omega (arith, long (goal.at.returns-then-x-place c).Start, c.if-x-place.true)))
+    passing_rest c.loop-k.invariant c.requires.1 (omega (arith, c.requires.2.least)) (λ h. absurd (omega (arith, long (goal.at.returns-then-x-place c).Start, c.if-x-place.true)))
 
 pub returns-then-end-next : goal.returns-then-end-next
 returns-then-end-next c =
-    let head = c in
-    let s = head in
-    passing_rest head.loop-k.invariant s.requires.1 (omega (arith, s.requires.2.least)) (λ h. omega (arith, c.logical-next.ensures, c.if-end-next.true))
+    passing_rest c.loop-k.invariant c.requires.1 (omega (arith, c.requires.2.least)) (λ h. omega (arith, c.logical-next.ensures, c.if-end-next.true))
 
 pub loop-k-preserved-then-here-next : goal.loop-k-preserved-then-here-next
 loop-k-preserved-then-here-next c =
-    let read = c in
-    let head = read in
-    let s = head in
-    passing-ahead head.loop-k.invariant s.requires.1 _ (within (goal.at.loop-k-preserved-then-here-next c).Then-here-next)
-    (λ i l. omega (arith, read.logical-next.ensures, page-ahead s.args.x.form.page s.args.first head.loop-k.k read.logical-next.result c.if-here-next.true i l))
+    passing-ahead c.loop-k.invariant c.requires.1 _ (within (goal.at.loop-k-preserved-then-here-next c).Then-here-next)
+    (λ i l. omega (arith, c.logical-next.ensures, page-ahead c.args.x.form.page c.args.first c.loop-k.k c.logical-next.result c.if-here-next.true i l))
 
 pub loop-k-preserved : goal.loop-k-preserved
 loop-k-preserved c =
-    let read = c in
-    let turn = read in
-    let s = turn in
-    passing-at turn.loop-k.invariant s.requires.1 (rw (long (goal.at.loop-k-preserved c).Start) read.if-x-place.false) (omega (arith, s.requires.2.least)) turn.loop-k-test.true (omega (arith, read.logical-next.ensures, c.if-next-here.false, c.if-here-next.false))
+    passing-at c.loop-k.invariant c.requires.1 (rw (long (goal.at.loop-k-preserved c).Start) c.if-x-place.false) (omega (arith, c.requires.2.least)) c.loop-k-test.true (omega (arith, c.logical-next.ensures, c.if-next-here.false, c.if-here-next.false))
 
 pub loop-k-preserved-then-next-here : goal.loop-k-preserved-then-next-here
 loop-k-preserved-then-next-here c =
-    let read = c in
-    let head = read in
-    let s = head in
-    passing-below head.loop-k.invariant s.requires.1 (rw (long (goal.at.loop-k-preserved-then-next-here c).Start) read.if-x-place.false) (omega (arith, read.logical-next.ensures, c.if-next-here.true))
+    passing-below c.loop-k.invariant c.requires.1 (rw (long (goal.at.loop-k-preserved-then-next-here c).Start) c.if-x-place.false) (omega (arith, c.logical-next.ensures, c.if-next-here.true))

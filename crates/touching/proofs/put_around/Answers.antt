@@ -6,20 +6,18 @@ use Rattle.touching.proofs.Touches.{over_run, run_long}
 use Rattle.touching.proofs.put_around.Goals as goal
 
 pub put_kept-requires : goal.put_kept-requires
-put_kept-requires c = let s = c in (source_less _ s.requires.1 (omega (arith, c.run_in-run.ensures.in-page)), omega (arith, s.requires.0.below, s.requires.0.short))
+put_kept-requires c = (source_less _ c.requires.1 (omega (arith, c.run_in-run.ensures.in-page)), omega (arith, c.requires.0.below, c.requires.0.short))
 
 pub put_kept-requires-2 : goal.put_kept-requires-2
 put_kept-requires-2 c =
-    let s = c in
-    let a = s.args in
-    let v = s.requires.0 in
+    let a = c.args in
+    let v = c.requires.0 in
     let r = c.run_in-run.ensures in
-    (source-behind a.original.now a.p.address a.p.size s.requires.1 _ _ _ (run_long a.bytes.now r) r.in-page c.put_kept.ensures c.put_run.ensures, omega (arith, v.below, v.short, v.small, r.in-page))
+    (source-behind a.original.now a.p.address a.p.size c.requires.1 _ _ _ (run_long a.bytes.now r) r.in-page c.put_kept.ensures c.put_run.ensures, omega (arith, v.below, v.short, v.small, r.in-page))
 
 pub returns : goal.returns
 returns c =
-    let s = c in
-    let a = s.args in
+    let a = c.args in
     let r = c.run_in-run.ensures in
-    page-laid a.original.now a.p.address a.p.size s.requires.1 _ _ _ (run_long a.bytes.now r) r.in-page c.put_kept.ensures c.put_run.ensures c.put_kept-2.ensures
+    page-laid a.original.now a.p.address a.p.size c.requires.1 _ _ _ (run_long a.bytes.now r) r.in-page c.put_kept.ensures c.put_run.ensures c.put_kept-2.ensures
     ∙ over_run _ a.to a.bytes.now r

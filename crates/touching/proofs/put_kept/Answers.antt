@@ -4,10 +4,9 @@ use Rattle.touching.proofs.Copies.{source_less, copied}
 use Rattle.touching.proofs.put_kept.Goals as goal
 
 pub put_page-requires : goal.put_page-requires
-put_page-requires c = let s = c in (source_less _ s.requires.0 (omega (arith, c.below-keep.ensures)), s.requires.1)
+put_page-requires c = (source_less _ c.requires.0 (omega (arith, c.below-keep.ensures)), c.requires.1)
 
 pub returns : goal.returns
 returns c =
-    let s = c in
-    let a = s.args in
-    copied a.original.now _ _ a.p.address a.p.size a.from a.n c.below-keep.ensures a.to _ s.requires.0.room c.put_page.ensures c.put_zeros.ensures
+    let a = c.args in
+    copied a.original.now _ _ a.p.address a.p.size a.from a.n c.below-keep.ensures a.to _ c.requires.0.room c.put_page.ensures c.put_zeros.ensures

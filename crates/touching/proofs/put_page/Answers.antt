@@ -24,10 +24,8 @@ copy_run-requires c = (omega (arith, ahead (goal.at.copy_run-requires c).After-e
 
 pub returns-then-place-x : goal.returns-then-place-x
 returns-then-place-x c =
-    let s = c in
-    let a = s.args in
-    let e = c in
-    page-stored a.original.now _ a.p.x a.to a.p.address a.from a.n e.find-place.ensures.0 e.if-place-x.true e.entry-e.ensures (omega (arith, ahead (goal.at.returns-then-place-x c).After-entry-e, s.requires.0.room)) c.copy_run.ensures
+    let a = c.args in
+    page-stored a.original.now _ a.p.x a.to a.p.address a.from a.n c.find-place.ensures.0 c.if-place-x.true c.entry-e.ensures (omega (arith, ahead (goal.at.returns-then-place-x c).After-entry-e, c.requires.0.room)) c.copy_run.ensures
 
 pub returns : goal.returns
 returns c =

@@ -16,7 +16,7 @@ use Rattle.touching.specs.Pages.{Ready, Shares, AllNew}
 use Rattle.touching.proofs.Copies.{room_new, ready_source}
 use Rattle.touching.proofs.Loop.{Fits, writing_start, writing_one, writing_shares, writing_kept, writing-fresh, writing-room, writing-over, writing_new, writing_fits, writing-stored, writing-end}
 use Rattle.touching.proofs.write_pages.Goals as goal
-use Rattle.touching.proofs.write_pages.Goals.{After-new_pages-some, At-loop-k, Else-place-before, In-loop-k, Then-place-before}
+use Rattle.touching.proofs.write_pages.Goals.{After-new_pages-some, Else-place-before, In-loop-k, Then-place-before}
 
 full : {history : List ℕ} {s : Setting} {x : Index} {index : List Entry} {st : State} {pages : List ℕ} → Ready history s x index st pages → st.n ≤ length st.pages
 full w = omega (arith, w.full, w.few)
@@ -33,53 +33,46 @@ there : (c : Then-place-before)
     let page = c.args.s.form.page in
     l.t.end + c.own_place-place.result * page + page ≤ length l.history
 there c =
-    let turn = c in
-    writing-room _ _ _ _ _ _ turn.loop-k.invariant turn.loop-k-test.true (full c.requires.ready) c.own_place-place.ensures.0 c.if-place-before.true
+    writing-room _ _ _ _ _ _ c.loop-k.invariant c.loop-k-test.true (full c.requires.ready) c.own_place-place.ensures.0 c.if-place-before.true
 
 -- or it is none of them, and there is room for one more.
 absent : (c : Else-place-before)
-    → let head = c in
-    has (take head.args.st.n head.loop-k.t.pages) head.loop-k.a ≡ false
+    → has (take c.args.st.n c.loop-k.t.pages) c.loop-k.a ≡ false
 absent c =
     -- The session's pages ahead of the write stand in front of those that it touches.
     let front : c.args.st.n ≤ length c.loop-k.t.pages = omega (arith, c.requires.ready.few, c.loop-k.invariant.ready.full) in
     own-missing _ _ _ front c.own_place-place.ensures.0 c.if-place-before.false
 
 missing : (c : Else-place-before)
-    → let head = c in
-    has (own_pages head.args.st) head.loop-k.a ≡ false
+    → has (own_pages c.args.st) c.loop-k.a ≡ false
 missing c =
     let kept : take c.args.st.n c.loop-k.t.pages ≡ own_pages c.args.st = writing_kept _ _ _ _ _ _ c.loop-k.invariant c.loop-k-test.true (full c.requires.ready) in
     rw kept at (absent c)
 
 fresh : (c : Else-place-before) → let l = c.loop-k in has (own_pages l.t) l.a ≡ false
-fresh c = let turn = c in writing-fresh _ _ _ _ _ _ turn.loop-k.invariant turn.loop-k-test.true (missing c)
+fresh c = writing-fresh _ _ _ _ _ _ c.loop-k.invariant c.loop-k-test.true (missing c)
 
 room : (c : Else-place-before)
     → let l = c.loop-k in
     let page = c.args.s.form.page in
     (l.t.n < touch_limit) × (l.t.end + l.t.n * page + page ≤ length l.history)
-room c = let turn = c in room_new (writing_one _ _ _ _ _ _ turn.loop-k.invariant turn.loop-k-test.true) (fresh c)
+room c = room_new (writing_one _ _ _ _ _ _ c.loop-k.invariant c.loop-k-test.true) (fresh c)
 
 -- The pages of a run are new, and have room too.
 new : (c : After-new_pages-some)
-    → let head = c in
-    let a = head.args in
-    AllNew (own_pages a.st) a.s.form.page head.loop-k.a c.new_pages-some.result
+    → let a = c.args in
+    AllNew (own_pages a.st) a.s.form.page c.loop-k.a c.new_pages-some.result
 new c =
     let kept : take c.args.st.n c.loop-k.t.pages ≡ own_pages c.args.st = writing_kept _ _ _ _ _ _ c.loop-k.invariant c.loop-k-test.true (full c.requires.ready) in
     rw kept at c.new_pages-some.ensures.2
 
 fits : (c : After-new_pages-some)
-    → let head = c in
-    let a = head.args in
-    let l = head.loop-k in
-    Fits a.original.now a.s a.x (entries_in a.history.now a.x) a.offset a.bytes.now head.pages_in-m.result l.history l.t l.a l.k c.new_pages-some.result
+    → let a = c.args in
+    let l = c.loop-k in
+    Fits a.original.now a.s a.x (entries_in a.history.now a.x) a.offset a.bytes.now c.pages_in-m.result l.history l.t l.a l.k c.new_pages-some.result
 fits c =
-    let judged = c in
-    let head = judged in
     let n = c.new_pages-some.ensures in
-    writing_fits _ _ _ _ _ _ head.loop-k.invariant head.requires.bytes_bound judged.covered-whole.ensures n.0 n.1 (new c)
+    writing_fits _ _ _ _ _ _ c.loop-k.invariant c.requires.bytes_bound c.covered-whole.ensures n.0 n.1 (new c)
 
 pub loop-k-init : goal.loop-k-init
 loop-k-init c = writing_start _ _ _ _ _ _ _ c.pages_in-m.ensures c.requires.ready
@@ -92,48 +85,35 @@ put_own-requires c = (shares (goal.at.put_own-requires c).In-loop-k, there (goal
 
 pub loop-k-preserved-then-place-before : goal.loop-k-preserved-then-place-before
 loop-k-preserved-then-place-before c =
-    let found = c in
-    let turn = found in
-    let head = turn in
-    writing-over _ _ _ _ _ _ head.loop-k.invariant turn.loop-k-test.true head.requires.bytes_bound (full c.requires.ready) found.own_place-place.ensures.0 found.if-place-before.true c.put_own.ensures
+    writing-over _ _ _ _ _ _ c.loop-k.invariant c.loop-k-test.true c.requires.bytes_bound (full c.requires.ready) c.own_place-place.ensures.0 c.if-place-before.true c.put_own.ensures
 
 pub covered-whole-requires : goal.covered-whole-requires
-covered-whole-requires c = let turn = c in (shares (goal.at.covered-whole-requires c).In-loop-k, omega (arith, turn.loop-k.invariant.ready.sized.least))
+covered-whole-requires c = (shares (goal.at.covered-whole-requires c).In-loop-k, omega (arith, c.loop-k.invariant.ready.sized.least))
 
 pub put_around-requires : goal.put_around-requires
 put_around-requires c =
-    let turn = c in
-    (shares (goal.at.put_around-requires c).In-loop-k, ready_source (writing_one _ _ _ _ _ _ turn.loop-k.invariant turn.loop-k-test.true) (fresh (goal.at.put_around-requires c).Else-place-before))
+    (shares (goal.at.put_around-requires c).In-loop-k, ready_source (writing_one _ _ _ _ _ _ c.loop-k.invariant c.loop-k-test.true) (fresh (goal.at.put_around-requires c).Else-place-before))
 
 pub bounds-t-n : goal.bounds-t-n
 bounds-t-n c =
-    let new = c in
-    omega (arith, room (goal.at.bounds-t-n c).Else-place-before, new.loop-k.invariant.ready.full)
+    omega (arith, room (goal.at.bounds-t-n c).Else-place-before, c.loop-k.invariant.ready.full)
 
 pub loop-k-preserved-then-whole-eq0 : goal.loop-k-preserved-then-whole-eq0
 loop-k-preserved-then-whole-eq0 c =
-    let new = c in
-    let turn = new in
-    let head = turn in
-    writing_new _ _ _ _ _ _ head.loop-k.invariant turn.loop-k-test.true head.requires.bytes_bound (missing (goal.at.loop-k-preserved-then-whole-eq0 c).Else-place-before) c.put_around.ensures
+    writing_new _ _ _ _ _ _ c.loop-k.invariant c.loop-k-test.true c.requires.bytes_bound (missing (goal.at.loop-k-preserved-then-whole-eq0 c).Else-place-before) c.put_around.ensures
 
 pub put_run-requires : goal.put_run-requires
 put_run-requires c = (fits (goal.at.put_run-requires c).After-new_pages-some).in-history
 
 pub note_pages-requires : goal.note_pages-requires
 note_pages-requires c =
-    let made = c in
-    let head = made in
     let f = fits (goal.at.note_pages-requires c).After-new_pages-some in
-    (head.loop-k.invariant.ready.full, f.in-session, omega (arith, f.from, f.in_bytes, head.requires.bytes_bound))
+    (c.loop-k.invariant.ready.full, f.in-session, omega (arith, f.from, f.in_bytes, c.requires.bytes_bound))
 
 pub loop-k-preserved : goal.loop-k-preserved
 loop-k-preserved c =
-    let made = c in
-    let judged = made in
-    let head = judged in
-    let n = made.new_pages-some.ensures in
-    writing-stored _ _ _ _ _ _ head.loop-k.invariant head.requires.bytes_bound judged.covered-whole.ensures n.0 n.1 (new (goal.at.loop-k-preserved c).After-new_pages-some) c.put_run.ensures c.note_pages.ensures
+    let n = c.new_pages-some.ensures in
+    writing-stored _ _ _ _ _ _ c.loop-k.invariant c.requires.bytes_bound c.covered-whole.ensures n.0 n.1 (new (goal.at.loop-k-preserved c).After-new_pages-some) c.put_run.ensures c.note_pages.ensures
 
 pub returns : goal.returns
 returns c = writing-end _ _ _ _ _ _ c.loop-k.invariant c.loop-k-test.false

@@ -6,25 +6,22 @@ use Rattle.view.proofs.pages_wrong.Goals as goal
 use Rattle.view.proofs.pages_wrong.Goals.{At-loop-place}
 
 within : (c : At-loop-place) → c.place_from-last.result ≤ c.args.v.index.entries
-within c = let s = c in last_within s.requires.0 s.args.first s.args.m c.loop-place.invariant c.place_from-last.ensures
+within c = last_within c.requires.0 c.args.first c.args.m c.loop-place.invariant c.place_from-last.ensures
 
 pub loop-place-init : goal.loop-place-init
 loop-place-init c = entries-start _ _ c.args.v _ c.place_from-place.ensures
 
 pub unowned_wrong-requires : goal.unowned_wrong-requires
-unowned_wrong-requires c = let s = c in (s.requires.0, s.requires.1, omega (arith, within (goal.at.unowned_wrong-requires c).At-loop-place))
+unowned_wrong-requires c = (c.requires.0, c.requires.1, omega (arith, within (goal.at.unowned_wrong-requires c).At-loop-place))
 
 pub returns-then-unowned_wrong : goal.returns-then-unowned_wrong
 returns-then-unowned_wrong c =
-    let s = c in
-    entries-fault s.requires.0 s.args.first s.args.m c.loop-place.invariant c.place_from-last.ensures c.loop-place-test.true c.unowned_wrong.ensures s.requires.3 c.if-unowned_wrong.true
+    entries-fault c.requires.0 c.args.first c.args.m c.loop-place.invariant c.place_from-last.ensures c.loop-place-test.true c.unowned_wrong.ensures c.requires.3 c.if-unowned_wrong.true
 
 pub loop-place-preserved : goal.loop-place-preserved
 loop-place-preserved c =
-    let s = c in
-    entries_turn s.requires.0 s.args.first s.args.m c.loop-place.invariant c.place_from-last.ensures c.loop-place-test.true c.unowned_wrong.ensures c.if-unowned_wrong.false
+    entries_turn c.requires.0 c.args.first c.args.m c.loop-place.invariant c.place_from-last.ensures c.loop-place-test.true c.unowned_wrong.ensures c.if-unowned_wrong.false
 
 pub returns : goal.returns
 returns c =
-    let s = c in
-    entries-end s.requires.0 s.args.first s.args.m c.loop-place.invariant c.place_from-last.ensures c.loop-place-test.false
+    entries-end c.requires.0 c.args.first c.args.m c.loop-place.invariant c.place_from-last.ensures c.loop-place-test.false

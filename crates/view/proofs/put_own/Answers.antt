@@ -4,12 +4,11 @@ use Rattle.view.proofs.Overlay.{own_apart, own_uneven, own-laid}
 use Rattle.view.proofs.put_own.Goals as goal
 
 pub returns-then-end-start : goal.returns-then-end-start
-returns-then-end-start c = let s = c in own_apart _ _ _ s.args.address s.args.stored s.args.from s.requires.0 (search rules)
+returns-then-end-start c = own_apart _ _ _ c.args.address c.args.stored c.args.from c.requires.0 (search rules)
 
 pub returns-then-address-page-ne0 : goal.returns-then-address-page-ne0
-returns-then-address-page-ne0 c = let s = c in own_uneven _ _ _ s.args.address s.args.stored s.args.from s.requires.0 c.if-address-page-ne0.true
+returns-then-address-page-ne0 c = own_uneven _ _ _ c.args.address c.args.stored c.args.from c.requires.0 c.if-address-page-ne0.true
 
 pub returns : goal.returns
 returns c =
-    let s = c in
-    own-laid _ _ _ s.args.address s.args.stored s.args.from s.requires.0 c.if-address-page-ne0.false s.requires.1 c.most-start.ensures c.least-end.ensures (search rules) c.put_stored.ensures
+    own-laid _ _ _ c.args.address c.args.stored c.args.from c.requires.0 c.if-address-page-ne0.false c.requires.1 c.most-start.ensures c.least-end.ensures (search rules) c.put_stored.ensures

@@ -5,6 +5,5 @@ use Rattle.view.proofs.range_wrong.Goals as goal
 
 pub pages_wrong-requires : goal.pages_wrong-requires
 pages_wrong-requires c =
-    let s = c in
-    let w = s.requires.0 in
-    (w, s.requires.1, range-room _ s.args.at s.args.n c.pages_in-m.ensures s.requires.2 w.least w.most, page-multiple _ s.args.at)
+    let w = c.requires.0 in
+    (w, c.requires.1, range-room _ c.args.at c.args.n c.pages_in-m.ensures c.requires.2 w.least w.most, page-multiple _ c.args.at)

@@ -8,22 +8,19 @@ use Rattle.view.proofs.Pages.{entry-room, whole_fine, owned_fine, unowned-page}
 use Rattle.view.proofs.unowned_wrong.Goals as goal
 
 pub page_sum_wrong-requires : goal.page_sum_wrong-requires
-page_sum_wrong-requires c = let s = c in (entry-room _ s.args.v s.requires.0 _ s.requires.2 c.entry-e.ensures, s.requires.0.short)
+page_sum_wrong-requires c = (entry-room _ c.args.v c.requires.0 _ c.requires.2 c.entry-e.ensures, c.requires.0.short)
 
 pub returns-then-not-page_sum_wrong : goal.returns-then-not-page_sum_wrong
 returns-then-not-page_sum_wrong c =
-    let s = c in
-    whole_fine _ _ s.args.v s.requires.0 _ s.requires.2 c.entry-e.ensures (sym c.page_sum_wrong.ensures ∙ not-true _ (ap not c.if-not-page_sum_wrong.true))
+    whole_fine _ _ c.args.v c.requires.0 _ c.requires.2 c.entry-e.ensures (sym c.page_sum_wrong.ensures ∙ not-true _ (ap not c.if-not-page_sum_wrong.true))
 
 pub returns-then-own_place-own : goal.returns-then-own_place-own
 returns-then-own_place-own c =
-    let s = c in
-    owned_fine _ _ s.args.v s.requires.0 _ s.requires.2 c.entry-e.ensures (own-there _ _ _ s.requires.1 c.own_place.ensures.0 c.if-own_place-own.true)
+    owned_fine _ _ c.args.v c.requires.0 _ c.requires.2 c.entry-e.ensures (own-there _ _ _ c.requires.1 c.own_place.ensures.0 c.if-own_place-own.true)
 
 pub page_sum_wrong-requires-2 : goal.page_sum_wrong-requires-2
-page_sum_wrong-requires-2 c = let s = c in (entry-room _ s.args.v s.requires.0 _ s.requires.2 c.entry-e.ensures, s.requires.0.short)
+page_sum_wrong-requires-2 c = (entry-room _ c.args.v c.requires.0 _ c.requires.2 c.entry-e.ensures, c.requires.0.short)
 
 pub returns : goal.returns
 returns c =
-    let s = c in
-    c.page_sum_wrong-2.ensures ∙ unowned-page _ _ s.args.v s.requires.0 _ s.requires.2 c.entry-e.ensures (own-missing _ _ _ s.requires.1 c.own_place.ensures.0 c.if-own_place-own.false)
+    c.page_sum_wrong-2.ensures ∙ unowned-page _ _ c.args.v c.requires.0 _ c.requires.2 c.entry-e.ensures (own-missing _ _ _ c.requires.1 c.own_place.ensures.0 c.if-own_place-own.false)

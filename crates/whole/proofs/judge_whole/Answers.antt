@@ -13,8 +13,7 @@ setting_with-front-requires c = (header_facts _ c.requires).front
 
 pub lies-requires : goal.lies-requires
 lies-requires c =
-    let begin = c in
-    (front-paged _ 0 c.setting_with-front.ensures begin.requires, (header_facts _ begin.requires).short)
+    (front-paged _ 0 c.setting_with-front.ensures c.requires, (header_facts _ c.requires).short)
 
 pub returns-then-not-lies : goal.returns-then-not-lies
 returns-then-not-lies c =

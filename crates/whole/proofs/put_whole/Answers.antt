@@ -41,9 +41,4 @@ put_sum-requires c =
 
 pub returns : goal.returns
 returns c =
-    let sum = c in
-    let added = sum in
-    let copied = added in
-    let started = copied in
-    let begin = started in
-    whole-laid begin.requires started.end_of-start.ensures _ _ _ _ started.put_start.ensures copied.copy_run.ensures added.put_location.ensures sum.put_sum.ensures
+    whole-laid c.requires c.end_of-start.ensures _ _ _ _ c.put_start.ensures c.copy_run.ensures c.put_location.ensures c.put_sum.ensures

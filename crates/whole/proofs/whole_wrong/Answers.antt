@@ -37,8 +37,7 @@ sums_stand-requires c = (omega (arith, inside (goal.at.sums_stand-requires c).St
 
 pub returns : goal.returns
 returns c =
-    let begin = c in
-    let s = begin.args.s in
+    let s = c.args.s in
     let w = c.whole_size.ensures in
-    let lies = begin.requires.0 in
+    let lies = c.requires.0 in
     whole_parts _ s _ (record { behind = lies.behind; ends = lies.ends; sized = omega (arith, w); few = omega arith }) (omega (arith, w)) c.starts.ensures c.sum_stands.ensures c.sums_stand.ensures

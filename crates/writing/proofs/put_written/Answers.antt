@@ -7,12 +7,10 @@ use Rattle.writing.proofs.put_written.Goals as goal
 
 pub write_pages-t-requires : goal.write_pages-t-requires
 write_pages-t-requires c =
-    let begin = c in
-    let full : length begin.args.st.pages ≡ 256 = search rules in
-    record { ready = ready _ _ begin.requires c.index_in-x.ensures full; bytes_bound = begin.requires.near }
+    let full : length c.args.st.pages ≡ 256 = search rules in
+    record { ready = ready _ _ c.requires c.index_in-x.ensures full; bytes_bound = c.requires.near }
 
 pub returns : goal.returns
 returns c =
-    let begin = c in
-    let a = begin.args in
+    let a = c.args in
     written_whole _ _ a.s a.st a.r a.at _ c.index_in-x.ensures c.write_pages-t.ensures c.most-size.ensures

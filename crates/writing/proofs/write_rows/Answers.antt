@@ -17,8 +17,7 @@ returns-then-write_too_far c =
 
 pub room_rows-number-requires : goal.room_rows-number-requires
 room_rows-number-requires c =
-    let begin = c in
-    (begin.requires, near_enough _ _ (sym c.write_too_far.ensures ∙ c.if-write_too_far.false))
+    (c.requires, near_enough _ _ (sym c.write_too_far.ensures ∙ c.if-write_too_far.false))
 
 pub returns-then-number-ne0 : goal.returns-then-number-ne0
 returns-then-number-ne0 c =
@@ -28,17 +27,14 @@ returns-then-number-ne0 c =
 
 pub range_wrong-requires : goal.range_wrong-requires
 range_wrong-requires c =
-    let begin = c in
-    let w = begin.requires in
+    let w = c.requires in
     (view_seen w.parent c.index_in.ensures _ _ w.room, omega (arith, w.touched), near_enough _ _ (sym c.write_too_far.ensures ∙ c.if-write_too_far.false))
 
 pub returns-then-range_wrong : goal.returns-then-range_wrong
 returns-then-range_wrong c =
-    let begin = c in
-    let a = begin.args in
-    record { number = write_damaged a.st _ a.s a.r a.at a.n c.if-st-at.false c.write_too_far.ensures c.if-write_too_far.false c.room_rows-number.ensures c.if-number-ne0.false begin.requires c.index_in.ensures c.range_wrong.ensures c.if-range_wrong.true; fits = λ z. absurd (omega arith) }
+    let a = c.args in
+    record { number = write_damaged a.st _ a.s a.r a.at a.n c.if-st-at.false c.write_too_far.ensures c.if-write_too_far.false c.room_rows-number.ensures c.if-number-ne0.false c.requires c.index_in.ensures c.range_wrong.ensures c.if-range_wrong.true; fits = λ z. absurd (omega arith) }
 
 pub returns : goal.returns
 returns c =
-    let begin = c in
-    let a = begin.args in record { number = write_fine a.st _ a.s a.r a.at a.n c.if-st-at.false c.write_too_far.ensures c.if-write_too_far.false c.room_rows-number.ensures c.if-number-ne0.false begin.requires c.index_in.ensures c.range_wrong.ensures c.if-range_wrong.false; fits = λ z. writable a.st _ a.s a.r a.at a.n c.if-st-at.false c.write_too_far.ensures c.if-write_too_far.false c.room_rows-number.ensures c.if-number-ne0.false begin.requires }
+    let a = c.args in record { number = write_fine a.st _ a.s a.r a.at a.n c.if-st-at.false c.write_too_far.ensures c.if-write_too_far.false c.room_rows-number.ensures c.if-number-ne0.false c.requires c.index_in.ensures c.range_wrong.ensures c.if-range_wrong.false; fits = λ z. writable a.st _ a.s a.r a.at a.n c.if-st-at.false c.write_too_far.ensures c.if-write_too_far.false c.room_rows-number.ensures c.if-number-ne0.false c.requires }
