@@ -1,8 +1,5 @@
 -- The entry at the place is its page's: the page is whole, or the session's own, or its checksum decides.
-use mathlib.Core.Bool.{not}
-use mathlib.Core.Path.{ap}
 use mathlib.Core.Path.{sym, ◌∙◌}
-use borrow.Author.Tests.{not-true}
 use Rattle.rules.proofs.Range.{own-there, own-missing}
 use Rattle.view.proofs.Pages.{entry-room, whole_fine, owned_fine, unowned-page}
 use Rattle.view.proofs.unowned_wrong.Goals as goal
@@ -12,7 +9,7 @@ page_sum_wrong-requires c = (entry-room _ c.args.v c.requires.0 _ c.requires.2 c
 
 pub returns-then-not-page_sum_wrong : goal.returns-then-not-page_sum_wrong
 returns-then-not-page_sum_wrong c =
-    whole_fine _ _ c.args.v c.requires.0 _ c.requires.2 c.entry-e.ensures (sym c.page_sum_wrong.ensures ∙ not-true _ (ap not c.if-not-page_sum_wrong.true))
+    whole_fine _ _ c.args.v c.requires.0 _ c.requires.2 c.entry-e.ensures (sym c.page_sum_wrong.ensures ∙ c.if-not-page_sum_wrong.true)
 
 pub returns-then-own_place-own : goal.returns-then-own_place-own
 returns-then-own_place-own c =
