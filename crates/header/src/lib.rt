@@ -6,8 +6,9 @@ ghost use Rattle.rules.specs.Bytes.{laid};
 ghost use Rattle.rules.specs.Layout.{page_allowed, limit, flags_of, header_width, header_front, header_bytes, form_of, setting_with};
 ghost use Rattle.rules.specs.Rows.{length_wrong, header_wrong, header_sum_wrong};
 ghost use Rattle.rules.specs.Calls.{header_rows};
+ghost use Rattle.rules.specs.Refusals.{told};
 
-use rules::{Form, Setting};
+use rules::{Form, Refusal, Setting};
 
 const SIGNATURE: [u8; 4] = *b"OHDH";
 
@@ -77,20 +78,20 @@ fn header_sum_wrong(history: &[u8]) -> bool
     !parts::sum_stands(history, 0, FRONT, FRONT)
 }
 
-// The number of the first of rows 1, 2 and 3 that holds, 0 where none does.
-pub fn header_rows(history: &[u8]) -> u64
-    ensures { result ≡ header_rows history.now }
+// Rows 1, 2 and 3: the first of them that holds refuses.
+pub fn header_rows(history: &[u8]) -> Result<(), Refusal>
+    ensures { told result ≡ header_rows history.now }
 {
     if length_wrong(layout::HEADER, history.len()) {
-        return 1;
+        return Err(Refusal::Length);
     }
     if header_wrong(history) {
-        return 2;
+        return Err(Refusal::Header);
     }
     if header_sum_wrong(history) {
-        return 3;
+        return Err(Refusal::HeaderSum);
     }
-    0
+    Ok(())
 }
 
 // ---- What the header says

@@ -1,6 +1,7 @@
 pub mod Bytes
 pub mod Checksum
 pub mod Rows
+pub mod Refusals
 pub mod Places
 pub mod Entries
 pub mod Rising

@@ -2,6 +2,42 @@
 // are handed over by value as they stand.
 #![tactic(auto)]
 
+ghost use Rattle.std.specs.Prelude.{◌≡◌};
+ghost use Rattle.rules.specs.Refusals.{number_of};
+
+// Why a call is refused: the rows of document 01, by their numbers.
+#[derive(Clone, Copy, Debug, PartialEq, Eq)]
+pub enum Refusal {
+    Length = 1,
+    Header = 2,
+    HeaderSum = 3,
+    Original = 4,
+    Whole = 5,
+    Revision = 6,
+    Record = 7,
+    RecordSum = 8,
+    PageSum = 9,
+    Outside = 10,
+    Locked = 11,
+    NotNewest = 12,
+    Session = 13,
+    TooMany = 14,
+    NoRoom = 15,
+    Texts = 16,
+    Creation = 17,
+    Full = 18,
+    TooFar = 19,
+    NotInOriginal = 20,
+}
+
+impl From<Refusal> for u64 {
+    ghost from_gives = { λ refusal number. number ≡ number_of refusal };
+
+    fn from(refusal: Refusal) -> u64 {
+        refusal as u64
+    }
+}
+
 // The form of a history: what its ends, widths and places go by.
 #[derive(Clone, Copy)]
 pub struct Form {

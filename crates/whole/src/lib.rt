@@ -2,7 +2,7 @@
 // and the bytes of a whole history.
 #![tactic(auto)]
 
-ghost use Rattle.std.specs.Prelude.{◌≡◌, true, false, [], ◌+◌, ◌≤◌, ◌<◌, length};
+ghost use Rattle.std.specs.Prelude.{◌≡◌, true, false, [], ◌+◌, ◌≤◌, ◌<◌, length, IfOk};
 ghost use Rattle.rules.specs.Bytes.{laid};
 ghost use Rattle.rules.specs.Layout.{
   limit,
@@ -18,11 +18,12 @@ ghost use Rattle.rules.specs.Layout.{
 ghost use Rattle.rules.specs.Session.{setting_stored, locations_stored};
 ghost use Rattle.rules.specs.Rows.{whole_wrong};
 ghost use Rattle.rules.specs.Calls.{row, header_rows, history_rows, both_rows};
+ghost use Rattle.rules.specs.Refusals.{told};
 ghost use Rattle.layout.specs.Paged.{Paged};
 ghost use Rattle.whole.specs.Sound.{Sound};
 ghost use Rattle.whole.specs.Places.{Lying, Extensible};
 
-use rules::{Form, Record, Setting};
+use rules::{Form, Record, Refusal, Setting};
 
 const SIGNATURE: [u8; 4] = *b"OWHR";
 
@@ -30,30 +31,6 @@ const SIGNATURE: [u8; 4] = *b"OWHR";
 const FRONT: usize = 16;
 
 // ---- Row 5
-
-// A history that rows have judged: their number and, where it is 0, what the history says of itself.
-#[derive(Clone, Copy)]
-pub struct Judged {
-    pub number: u64,
-    pub setting: Setting,
-}
-
-fn refused(number: u64) -> Judged
-    ensures { result.number ≡ number }
-{
-    Judged {
-        number,
-        setting: Setting {
-            form: Form { page: 0 },
-            original: 0,
-            address: 0,
-            size: 0,
-            count: 0,
-            lock: false,
-            branching: false,
-        },
-    }
-}
 
 // Whether the whole history lies where it may. Address and size may be any numbers, so each sum waits until its parts are small.
 fn lies(room: u64, s: Setting) -> bool
@@ -97,48 +74,42 @@ fn whole_wrong(history: &[u8], s: Setting) -> bool
         ))
 }
 
-// Row 5 of a history that rows 1 to 3 have passed. Its count is read once it is known to stand there.
-fn judge_whole(history: &[u8]) -> Judged
+// Row 5 of a history that rows 1 to 3 have passed: what the history says of itself. Its count is read once it is known to stand there.
+fn judge_whole(history: &[u8]) -> Result<Setting, Refusal>
     requires { header_rows history.now ≡ 0 }
-    ensures number { result.number ≡ row 5 (whole_wrong history.now (setting_of history.now)) }
-    ensures sound { result.number ≡ 0 → Sound history.now result.setting }
+    ensures number { told result ≡ row 5 (whole_wrong history.now (setting_of history.now)) }
+    ensures sound { IfOk result (λ s. Sound history.now s) }
 {
     let front = header::setting_with(history, 0);
     if !lies(history.len() as u64, front) {
-        return refused(5);
+        return Err(Refusal::Whole);
     }
     let count = numbers::get_u64(history, front.address as usize + 8);
     let setting = header::setting_with(history, count);
     if whole_wrong(history, setting) {
-        return refused(5);
+        return Err(Refusal::Whole);
     }
-    Judged { number: 0, setting }
+    Ok(setting)
 }
 
 // Rows 1, 2, 3, 5.
-pub fn judge(history: &[u8]) -> Judged
-    ensures number { result.number ≡ history_rows history.now (setting_of history.now) }
-    ensures sound { result.number ≡ 0 → Sound history.now result.setting }
+pub fn judge(history: &[u8]) -> Result<Setting, Refusal>
+    ensures number { told result ≡ history_rows history.now (setting_of history.now) }
+    ensures sound { IfOk result (λ s. Sound history.now s) }
 {
-    let number = header::header_rows(history);
-    if number != 0 {
-        return refused(number);
-    }
+    header::header_rows(history)?;
     judge_whole(history)
 }
 
 // Rows 1 to 5.
-pub fn judge_both(original: &[u8], history: &[u8]) -> Judged
-    ensures number { result.number ≡ both_rows original.now history.now (setting_of history.now) }
-    ensures sound { result.number ≡ 0 → Sound history.now result.setting }
+pub fn judge_both(original: &[u8], history: &[u8]) -> Result<Setting, Refusal>
+    ensures number { told result ≡ both_rows original.now history.now (setting_of history.now) }
+    ensures sound { IfOk result (λ s. Sound history.now s) }
 {
-    let number = header::header_rows(history);
-    if number != 0 {
-        return refused(number);
-    }
+    header::header_rows(history)?;
     let front = header::setting_with(history, 0);
     if original.len() as u64 != front.original {
-        return refused(4);
+        return Err(Refusal::Original);
     }
     judge_whole(history)
 }

@@ -1,16 +1,14 @@
 -- Row 5 comes behind the header's rows.
-use mathlib.Core.Path.{◌∙◌}
+use mathlib.Core.Path.{refl}
 use Rattle.rules.specs.Calls.{history_rows}
-use Rattle.rules.proofs.Rows.{rows_hold, rows_past, refusal}
+use Rattle.rules.proofs.Rows.{rows_past}
+use Rattle.rules.proofs.Refusals.{refused-ahead}
 use Rattle.whole.proofs.judge.Goals as goal
 
-pub returns-then-number-ne0 : goal.returns-then-number-ne0
+pub returns-in_err-header_rows-clause-number : goal.returns-in_err-header_rows-clause-number
 unfolding history_rows
-returns-then-number-ne0 c =
-    let refused = c.refused.ensures in
-    let h = c.header_rows-number.ensures in
-    record { number = refused ∙ rows_hold _ _ h c.if-number-ne0.true; sound = refusal refused c.if-number-ne0.true }
+returns-in_err-header_rows-clause-number c = refused-ahead _ _ _ c.from_residual.ensures.1 c.in_err-header_rows.ensures
 
 pub returns : goal.returns
 unfolding history_rows
-returns c = record { number = rows_past _ c.header_rows-number.ensures c.if-number-ne0.false c.judge_whole.ensures.number; sound = c.judge_whole.ensures.sound }
+returns c = let h = c.in_ok-header_rows.ensures in record { number = rows_past _ h refl c.judge_whole.ensures.number; sound = c.judge_whole.ensures.sound }

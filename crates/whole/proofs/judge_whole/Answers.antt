@@ -2,7 +2,7 @@
 use mathlib.Core.Path.{refl, sym, ◌∙◌}
 use native.Mathlib.Omega.{arith}
 use Rattle.rules.proofs.Places.{end-behind}
-use Rattle.rules.proofs.Rows.{last-holds, last_past, refusal}
+use Rattle.rules.proofs.Rows.{last-holds, last_past}
 use Rattle.rules.proofs.Headers.{header_facts}
 use Rattle.whole.proofs.Whole.{front_lies, counted-setting, whole_of, counted_lies}
 use Rattle.whole.proofs.Sound.{front-paged, sound}
@@ -15,11 +15,8 @@ pub lies-requires : goal.lies-requires
 lies-requires c =
     (front-paged _ 0 c.setting_with-front.ensures c.requires, (header_facts _ c.requires).short)
 
-pub returns-then-not-lies : goal.returns-then-not-lies
-returns-then-not-lies c =
-    let five = c.refused.ensures in
-    let front = c.setting_with-front.ensures in
-    record { number = five ∙ last-holds 5 (front_lies _ front (c.lies.ensures.1 c.if-not-lies.true)) refl; sound = refusal five (λ z. omega arith) }
+pub returns-then-not-lies-clause-number : goal.returns-then-not-lies-clause-number
+returns-then-not-lies-clause-number c = last-holds 5 (front_lies _ c.setting_with-front.ensures (c.lies.ensures.1 c.if-not-lies.true)) refl
 
 pub overflow_add-front : goal.overflow_add-front
 overflow_add-front c =
@@ -41,14 +38,13 @@ whole_wrong-requires c =
     let w = c.lies.ensures.0 c.if-not-lies.false in
     (counted_lies _ _ _ c.setting_with-front.ensures c.setting_with-setting.ensures w, (header_facts _ c.requires).short)
 
-pub returns-then-whole_wrong : goal.returns-then-whole_wrong
-returns-then-whole_wrong c =
-    let five = c.refused-then-whole_wrong.ensures in
+pub returns-then-whole_wrong-clause-number : goal.returns-then-whole_wrong-clause-number
+returns-then-whole_wrong-clause-number c =
     let t = counted-setting _ c.setting_with-front.ensures c.get_u64-count.ensures c.setting_with-setting.ensures in
-    record { number = five ∙ last-holds 5 (whole_of _ t c.whole_wrong.ensures) c.if-whole_wrong.true; sound = refusal five (λ z. omega arith) }
+    last-holds 5 (whole_of _ t c.whole_wrong.ensures) c.if-whole_wrong.true
 
 pub returns : goal.returns
 returns c =
     let wrong = c.whole_wrong.ensures in
     let t = counted-setting _ c.setting_with-front.ensures c.get_u64-count.ensures c.setting_with-setting.ensures in
-    record { number = last_past 5 (whole_of _ t wrong) c.if-whole_wrong.false; sound = λ z. sound _ c.requires t (sym wrong ∙ c.if-whole_wrong.false) }
+    record { number = last_past 5 (whole_of _ t wrong) c.if-whole_wrong.false; sound = sound _ c.requires t (sym wrong ∙ c.if-whole_wrong.false) }

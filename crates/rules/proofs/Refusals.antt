@@ -1,0 +1,69 @@
+-- Refusals and their numbers.
+use mathlib.Core.Path.{◌≡◌, ap, refl, sym, ◌∙◌}
+use Prim.Native.Nat.{ℕ, ◌+◌}
+use native.Mathlib.Omega.{arith}
+use denote.Enum.Declared.{tag_of}
+use Rattle.rules.specs.contracts.Refusal.{the_type}
+use Rattle.rules.specs.declared.Refusal.{Refusal}
+use Rattle.rules.specs.declared.Refusal.TheVariants.{
+  Length,
+  Header,
+  HeaderSum,
+  Original,
+  Whole,
+  Revision,
+  Record,
+  RecordSum,
+  PageSum,
+  Outside,
+  Locked,
+  NotNewest,
+  Session,
+  TooMany,
+  NoRoom,
+  Texts,
+  Creation,
+  Full,
+  TooFar,
+  NotInOriginal,
+}
+use Rattle.std.specs.Prelude.{Result, Ok, Err, IsErrAnd}
+use Rattle.rules.specs.Calls.{◌then◌}
+use Rattle.rules.specs.Refusals.{number_of, told}
+use Rattle.rules.proofs.Rows.{rows_hold}
+
+-- The rows count from 1 on in the order in which they are declared.
+pub tag-number : (e : Refusal) → tag_of the_type e + 1 ≡ number_of e
+tag-number Length = refl
+tag-number Header = refl
+tag-number HeaderSum = refl
+tag-number Original = refl
+tag-number Whole = refl
+tag-number Revision = refl
+tag-number Record = refl
+tag-number RecordSum = refl
+tag-number PageSum = refl
+tag-number Outside = refl
+tag-number Locked = refl
+tag-number NotNewest = refl
+tag-number Session = refl
+tag-number TooMany = refl
+tag-number NoRoom = refl
+tag-number Texts = refl
+tag-number Creation = refl
+tag-number Full = refl
+tag-number TooFar = refl
+tag-number NotInOriginal = refl
+
+-- No refusal has the number 0.
+pub refused : (e : Refusal) → number_of e ≡ 0 → ⊥
+refused e h = let t : tag_of the_type e + 1 ≡ 0 = tag-number e ∙ h in absurd (omega arith)
+
+-- A refusal that is handed on keeps its number.
+pub handed_on : {A : Type 0} (r : Result A Refusal) (e : Refusal) → IsErrAnd r (λ x. x ≡ e) → told r ≡ number_of e
+handed_on (Ok x) e h = absurd h
+handed_on (Err x) e h = ap number_of h
+
+-- Rows ahead of others refused, and their refusal is handed on.
+pub refused-ahead : {A : Type 0} (r : Result A Refusal) (e : Refusal) (rest : ℕ) {a : ℕ} → IsErrAnd r (λ x. x ≡ e) → number_of e ≡ a → told r ≡ a then rest
+refused-ahead r e rest h f = handed_on r e h ∙ rows_hold rest (number_of e) f (refused e)
