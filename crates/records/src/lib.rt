@@ -1,7 +1,7 @@
 // A revision's record: its fields read and stored, rows 7 and 8, and what stands of a record that has passed them.
 #![tactic(auto)]
 
-ghost use Rattle.std.specs.Prelude.{◌≡◌, true, false, ◌&&◌, List, ℕ, ◌+◌, ◌≤◌, ◌<◌, length};
+ghost use Rattle.std.specs.Prelude.{◌≡◌, true, false, ◌&&◌, List, ℕ, ◌+◌, ◌≤◌, ◌<◌, length, IfOk};
 ghost use Rattle.rules.specs.Bytes.{part, laid};
 ghost use Rattle.rules.specs.Layout.{
   page_allowed,
@@ -26,12 +26,13 @@ ghost use Rattle.rules.specs.Layout.{
 };
 ghost use Rattle.rules.specs.Rows.{entry_right, entries_right, record_lies, record_fields, record_wrong, record_sum_wrong};
 ghost use Rattle.rules.specs.Calls.{row, ◌then◌, record_rows};
+ghost use Rattle.rules.specs.Refusals.{told};
 ghost use Rattle.layout.specs.Paged.{Paged};
 ghost use Rattle.whole.specs.Sound.{Sound};
 ghost use Rattle.records.specs.Front.{descent_bytes};
 ghost use Rattle.records.specs.Sound.{Standing, index_in};
 
-use rules::{Entry, Form, Index, Record, Setting};
+use rules::{Entry, Form, Index, Record, Refusal, Setting};
 
 const SIGNATURE: [u8; 4] = *b"ORRS";
 
@@ -262,14 +263,14 @@ fn record_sum_wrong(history: &[u8], form: Form, r: Record) -> bool
 
 // ---- Both rows
 
-// A record that rows 7 and 8 have judged: their number and, where it is 0, the record.
+// A revision that rows have passed: what the history says of itself, and the revision's record.
 #[derive(Clone, Copy)]
-pub struct Judged {
-    pub number: u64,
+pub struct Revision {
+    pub setting: Setting,
     pub record: Record,
 }
 
-// What stands in revision 0's place, and beside a refusal.
+// What stands in revision 0's place.
 pub fn no_record(s: Setting) -> Record
     ensures { result ≡ no_record s }
 {
@@ -300,41 +301,35 @@ fn apart(s: Setting, at: u64, size: u64) -> bool
 }
 
 // Rows 7 and 8 of a record that was read where its location says.
-fn number_of(history: &[u8], s: Setting, k: u64, r: Record) -> u64
+fn judge_read(history: &[u8], s: Setting, k: u64, r: Record) -> Result<(), Refusal>
     requires { (Sound history.now s) × (r.address + front_width s.form ≤ length history.now) }
-    ensures { result ≡ row 7 (record_wrong history.now s k r) then row 8 (record_sum_wrong history.now s.form r) }
+    ensures { told result ≡ row 7 (record_wrong history.now s k r) then row 8 (record_sum_wrong history.now s.form r) }
 {
     if record_wrong(history, s, k, r) {
-        return 7;
+        return Err(Refusal::Record);
     }
     if record_sum_wrong(history, s.form, r) {
-        return 8;
+        return Err(Refusal::RecordSum);
     }
-    0
+    Ok(())
 }
 
 // Rows 7 and 8 of a revision. A record that does not lie where a record may is refused before its fields are read.
-pub fn judge(history: &[u8], s: Setting, k: u64) -> Judged
+pub fn judge(history: &[u8], s: Setting, k: u64) -> Result<Record, Refusal>
     requires { (Sound history.now s) × (k ≤ s.count) }
-    ensures number { result.number ≡ record_rows history.now s k }
-    ensures sound { result.number ≡ 0 → Standing history.now s k result.record }
+    ensures number { told result ≡ record_rows history.now s k }
+    ensures sound { IfOk result (λ r. Standing history.now s k r) }
 {
     if k == 0 {
-        return Judged {
-            number: 0,
-            record: no_record(s),
-        };
+        return Ok(no_record(s));
     }
     let place = whole::location_of(history, s, k);
     if apart(s, place.address, place.size) {
-        return Judged {
-            number: 7,
-            record: no_record(s),
-        };
+        return Err(Refusal::Record);
     }
     let record = record_at(history, s.form, place.address as usize, place.size);
-    let number = number_of(history, s, k, record);
-    Judged { number, record }
+    judge_read(history, s, k, record)?;
+    Ok(record)
 }
 
 // The record of a revision that the rows have passed before: it is read and not judged again.

@@ -4,7 +4,7 @@ use native.Mathlib.Omega.{arith}
 use Rattle.rules.proofs.Places.{end-behind}
 use Rattle.rules.proofs.Rows.{row-holds, row_past, last-holds, last_past}
 use Rattle.rules.proofs.Records.{record-right}
-use Rattle.records.proofs.number_of.Goals as goal
+use Rattle.records.proofs.judge_read.Goals as goal
 
 pub returns-then-record_wrong : goal.returns-then-record_wrong
 returns-then-record_wrong c = row-holds 7 _ (omega arith) c.record_wrong.ensures c.if-record_wrong.true
