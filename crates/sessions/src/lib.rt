@@ -1,7 +1,7 @@
 // A session's rows: 13, then 7 and 8 of its parent, then the last condition of 13; and the rows ahead of them.
 #![tactic(auto)]
 
-ghost use Rattle.std.specs.Prelude.{◌≡◌, true, ◌-◌, ◌≤◌, ◌<◌, length, take, get_or};
+ghost use Rattle.std.specs.Prelude.{◌≡◌, true, ◌-◌, ◌≤◌, ◌<◌, length, take, get_or, IfOk};
 ghost use Rattle.rules.specs.Bytes.{part};
 ghost use Rattle.rules.specs.Layout.{page_allowed};
 ghost use Rattle.rules.specs.Orders.{Rising};
@@ -9,18 +9,12 @@ ghost use Rattle.rules.specs.View.{has};
 ghost use Rattle.rules.specs.Session.{ended};
 ghost use Rattle.rules.specs.Rows.{pages_fit, session_wrong};
 ghost use Rattle.rules.specs.Calls.{session_rows, begin_rows, held_rows};
+ghost use Rattle.rules.specs.Refusals.{told};
 ghost use Rattle.whole.specs.Sound.{Sound};
 ghost use Rattle.sessions.specs.Sound.{SoundSession};
 
-use rules::{Record, Setting, State};
-
-// What a session call answers: its number, and the session handed back.
-#[repr(C)]
-#[derive(Clone, Copy)]
-pub struct Answered {
-    pub number: u64,
-    pub session: State,
-}
+use records::Revision;
+use rules::{Refusal, Setting, State};
 
 // The ended session, which fits no history.
 pub fn ended() -> State
@@ -99,70 +93,36 @@ fn session_wrong(history: &[u8], s: Setting, st: State) -> bool
 
 // ---- A session's rows
 
-// A session that rows have judged: their number and, where it is 0, what the history says of itself and the parent's record.
-#[derive(Clone, Copy)]
-pub struct Judged {
-    pub number: u64,
-    pub setting: Setting,
-    pub record: Record,
-}
-
-fn refused(number: u64, s: Setting) -> Judged
-    ensures { result.number ≡ number }
-{
-    Judged {
-        number,
-        setting: s,
-        record: records::no_record(s),
-    }
-}
-
-// Rows 13, 7, 8 and the last condition of 13.
-fn judge_session(st: State, history: &[u8], s: Setting) -> Judged
+// Rows 13, 7, 8 and the last condition of 13: the parent of a session that fits its history.
+fn judge_session(st: State, history: &[u8], s: Setting) -> Result<Revision, Refusal>
     requires { Sound history.now s }
-    ensures number { result.number ≡ session_rows history.now s st }
-    ensures sound { result.number ≡ 0 → SoundSession history.now result.setting st result.record }
+    ensures number { told result ≡ session_rows history.now s st }
+    ensures sound { IfOk result (λ parent. SoundSession history.now parent.setting st parent.record) }
 {
     if session_wrong(history, s, st) {
-        return refused(13, s);
+        return Err(Refusal::Session);
     }
-    let parent = records::judge(history, s, st.parent);
-    let record = parent.record;
-    if parent.number != 0 {
-        return refused(parent.number, s);
-    }
+    let record = records::judge(history, s, st.parent)?;
     if st.size < record.logical {
-        return refused(13, s);
+        return Err(Refusal::Session);
     }
-    Judged {
-        number: 0,
-        setting: s,
-        record,
-    }
+    Ok(Revision { setting: s, record })
 }
 
 // Rows 1 to 5, 13, 7, 8, which session read and write begin with.
-pub fn judge(st: State, original: &[u8], history: &[u8]) -> Judged
-    ensures number { result.number ≡ begin_rows st original.now history.now }
-    ensures sound { result.number ≡ 0 → SoundSession history.now result.setting st result.record }
+pub fn judge(st: State, original: &[u8], history: &[u8]) -> Result<Revision, Refusal>
+    ensures number { told result ≡ begin_rows st original.now history.now }
+    ensures sound { IfOk result (λ parent. SoundSession history.now parent.setting st parent.record) }
 {
-    let whole = whole::judge_both(original, history);
-    let setting = whole.setting;
-    if whole.number != 0 {
-        return refused(whole.number, setting);
-    }
+    let setting = whole::judge_both(original, history)?;
     judge_session(st, history, setting)
 }
 
 // Rows 1, 2, 3, 5, 13, 7, 8, which commit begins with.
-pub fn judge_alone(st: State, history: &[u8]) -> Judged
-    ensures number { result.number ≡ held_rows st history.now }
-    ensures sound { result.number ≡ 0 → SoundSession history.now result.setting st result.record }
+pub fn judge_alone(st: State, history: &[u8]) -> Result<Revision, Refusal>
+    ensures number { told result ≡ held_rows st history.now }
+    ensures sound { IfOk result (λ parent. SoundSession history.now parent.setting st parent.record) }
 {
-    let whole = whole::judge(history);
-    let setting = whole.setting;
-    if whole.number != 0 {
-        return refused(whole.number, setting);
-    }
+    let setting = whole::judge(history)?;
     judge_session(st, history, setting)
 }

@@ -1,21 +1,18 @@
 -- The rows of the revision come behind those of original and history.
-use mathlib.Core.Path.{◌∙◌}
+use mathlib.Core.Path.{refl}
 use Rattle.rules.specs.Calls.{revision_rows}
-use Rattle.rules.proofs.Rows.{rows_hold, rows_past, refusal}
+use Rattle.rules.proofs.Rows.{rows_past}
+use Rattle.rules.proofs.Refusals.{refused-ahead}
 use Rattle.revisions.proofs.Known.{asked_rows}
 use Rattle.revisions.proofs.judge.Goals as goal
 
-pub returns-then-whole-ne0 : goal.returns-then-whole-ne0
+pub returns-in_err-setting-clause-number : goal.returns-in_err-setting-clause-number
 unfolding revision_rows
-returns-then-whole-ne0 c =
-    let refused = c.refused.ensures in
-    let taken = c.if-whole-ne0.true in
-    record { number = refused ∙ rows_hold _ _ c.judge_both-whole.ensures.number taken; standing = refusal refused taken }
+returns-in_err-setting-clause-number c = refused-ahead _ _ _ c.from_residual.ensures.1 c.in_err-setting.ensures.number
 
 pub returns : goal.returns
 unfolding revision_rows
 returns c =
-    let both = c.judge_both-whole.ensures in
-    let zero = c.if-whole-ne0.false in
+    let ahead = c.in_ok-setting.ensures in
     let judged = c.judge_asked.ensures in
-    record { number = rows_past _ both.number zero (asked_rows _ _ (both.sound zero) judged.number); standing = judged.standing }
+    record { number = rows_past _ ahead.number refl (asked_rows _ _ ahead.sound judged.number); standing = judged.standing }
