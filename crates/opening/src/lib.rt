@@ -1,17 +1,17 @@
 // Creation, opening for writing and release.
 #![tactic(auto)]
 
-ghost use Rattle.std.specs.Prelude.{◌≡◌, ◌≤◌, length};
+ghost use Rattle.std.specs.Prelude.{◌≡◌, ◌≤◌, length, IfOk};
 ghost use Rattle.rules.specs.Layout.{header_width, setting_of, with_lock};
-ghost use Rattle.rules.specs.Session.{created_form, created_setting, opened, released};
+ghost use Rattle.rules.specs.Session.{ended, created_form, created_setting, opened, released};
 ghost use Rattle.rules.specs.Rows.{creation_wrong, not_newest};
-ghost use Rattle.rules.specs.Calls.{Reply, Outcome, asked, create, open_rows, open_for_writing, release};
+ghost use Rattle.rules.specs.Calls.{Reply, outcome, asked, create, open_rows, open_for_writing, release};
+ghost use Rattle.rules.specs.Refusals.{told};
 ghost use Rattle.layout.specs.Paged.{Paged, farthest};
 ghost use Rattle.records.specs.Sound.{Standing};
 
-use revisions::Judged;
-use rules::{Form, Setting, State};
-use sessions::Answered;
+use records::Revision;
+use rules::{Form, Refusal, Setting, State};
 
 // ---- Creation
 
@@ -40,20 +40,25 @@ fn created_setting(original: u64, page: u64, branching: bool) -> Setting
 }
 
 // Creates a history. The header is stored last: until it stands, there is no history.
-pub fn create(history: &mut [u8], original: u64, page: u64, branching: bool) -> u64
-    ensures { ◌≡◌ {A = Reply} (record { number = result; bytes = history.new })
+pub fn create(
+    history: &mut [u8],
+    original: u64,
+    page: u64,
+    branching: bool,
+) -> Result<(), Refusal>
+    ensures { ◌≡◌ {A = Reply} (record { number = told result; bytes = history.new })
         (create history.old original page branching) }
 {
     if header::length_wrong(layout::created_length(page), history.len()) {
-        return 1;
+        return Err(Refusal::Length);
     }
     if creation_wrong(original, page) {
-        return 17;
+        return Err(Refusal::Creation);
     }
     let s = created_setting(original, page, branching);
     whole::put_empty(history, s.form, s.address as usize);
     header::put_header(history, s);
-    0
+    Ok(())
 }
 
 // ---- Opening for writing
@@ -66,35 +71,26 @@ fn not_newest(s: Setting, k: u64) -> bool
 }
 
 // Rows 1 to 6, 11, 12, 18, 7, 8.
-fn judge(original: &[u8], history: &[u8], revision: u64) -> Judged
-    ensures number { result.number ≡ open_rows original.now history.now revision }
-    ensures standing { result.number ≡ 0 → Standing history.now result.setting (asked result.setting revision) result.record }
+fn judge(original: &[u8], history: &[u8], revision: u64) -> Result<Revision, Refusal>
+    ensures number { told result ≡ open_rows original.now history.now revision }
+    ensures standing { IfOk result (λ r. Standing history.now r.setting (asked r.setting revision) r.record) }
 {
-    let whole = whole::judge_both(original, history);
-    let setting = whole.setting;
-    if whole.number != 0 {
-        return revisions::refused(whole.number, setting);
-    }
+    let setting = whole::judge_both(original, history)?;
     if revisions::revision_unknown(setting, revision) {
-        return revisions::refused(6, setting);
+        return Err(Refusal::Revision);
     }
     if setting.lock {
-        return revisions::refused(11, setting);
+        return Err(Refusal::Locked);
     }
     let k = revisions::asked(setting, revision);
     if not_newest(setting, k) {
-        return revisions::refused(12, setting);
+        return Err(Refusal::NotNewest);
     }
     if layout::REVISIONS <= setting.count {
-        return revisions::refused(18, setting);
+        return Err(Refusal::Full);
     }
-    let parent = records::judge(history, setting, k);
-    let record = parent.record;
-    Judged {
-        number: parent.number,
-        setting,
-        record,
-    }
+    let record = records::judge(history, setting, k)?;
+    Ok(Revision { setting, record })
 }
 
 // The setting with its lock set or clear.
@@ -122,25 +118,19 @@ fn opened(s: Setting, parent: u64, logical: u64) -> State
     }
 }
 
-// Opens a revision for writing. The header, with the lock set, is all that is stored.
-pub fn open_for_writing(original: &[u8], history: &mut [u8], revision: u64) -> Answered
-    ensures { ◌≡◌ {A = Outcome} (record { number = result.number; session = result.session; bytes = history.new })
-        (open_for_writing original.now history.old revision) }
+// Opens a revision for writing. The header, with the lock set, is all that is stored. A refused open leaves the ended session.
+pub fn open_for_writing(
+    original: &[u8],
+    history: &mut [u8],
+    revision: u64,
+) -> Result<State, Refusal>
+    ensures { outcome ended result history.new ≡ open_for_writing original.now history.old revision }
 {
-    let judged = judge(original, history, revision);
-    if judged.number != 0 {
-        return Answered {
-            number: judged.number,
-            session: sessions::ended(),
-        };
-    }
-    let s = judged.setting;
+    let parent = judge(original, history, revision)?;
+    let s = parent.setting;
     let k = revisions::asked(s, revision);
     header::put_header(history, with_lock(s, true));
-    Answered {
-        number: 0,
-        session: opened(s, k, judged.record.logical),
-    }
+    Ok(opened(s, k, parent.record.logical))
 }
 
 // ---- Release
@@ -158,20 +148,10 @@ fn unlock(history: &mut [u8])
 }
 
 // Clears the lock and ends the session, whichever it is.
-pub fn release(st: State, history: &mut [u8]) -> Answered
-    ensures { ◌≡◌ {A = Outcome} (record { number = result.number; session = result.session; bytes = history.new })
-        (release st history.old) }
+pub fn release(st: State, history: &mut [u8]) -> Result<State, Refusal>
+    ensures { outcome st result history.new ≡ release st history.old }
 {
-    let refusal = header::header_rows(history);
-    if refusal != 0 {
-        return Answered {
-            number: refusal,
-            session: st,
-        };
-    }
+    header::header_rows(history)?;
     unlock(history);
-    Answered {
-        number: 0,
-        session: sessions::ended(),
-    }
+    Ok(sessions::ended())
 }

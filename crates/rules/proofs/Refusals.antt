@@ -59,11 +59,14 @@ tag-number NotInOriginal = refl
 pub refused : (e : Refusal) → number_of e ≡ 0 → ⊥
 refused e h = let t : tag_of the_type e + 1 ≡ 0 = tag-number e ∙ h in absurd (omega arith)
 
--- A refusal that is handed on keeps its number.
-pub handed_on : {A : Type 0} (r : Result A Refusal) (e : Refusal) → IsErrAnd r (λ x. x ≡ e) → told r ≡ number_of e
+-- A refusal that is handed on stays the same.
+pub handed_on : {A : Type 0} (r : Result A Refusal) (e : Refusal) → IsErrAnd r (λ x. x ≡ e) → r ≡ Err e
 handed_on (Ok x) e h = absurd h
-handed_on (Err x) e h = ap number_of h
+handed_on (Err x) e h = ap Err h
+
+pub number-handed_on : {A : Type 0} (r : Result A Refusal) (e : Refusal) → IsErrAnd r (λ x. x ≡ e) → told r ≡ number_of e
+number-handed_on r e h = ap told (handed_on r e h)
 
 -- Rows ahead of others refused, and their refusal is handed on.
 pub refused-ahead : {A : Type 0} (r : Result A Refusal) (e : Refusal) (rest : ℕ) {a : ℕ} → IsErrAnd r (λ x. x ≡ e) → number_of e ≡ a → told r ≡ a then rest
-refused-ahead r e rest h f = handed_on r e h ∙ rows_hold rest (number_of e) f (refused e)
+refused-ahead r e rest h f = number-handed_on r e h ∙ rows_hold rest (number_of e) f (refused e)

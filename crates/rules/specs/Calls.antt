@@ -1,6 +1,7 @@
 -- Document 01, "Refusal numbers", "Order": each call as one definition from all its inputs to all its outputs, which are the
 -- number, the session handed back and every lent byte at exit.
-use Rattle.std.specs.Prelude.{ℕ, zero, suc, ◌+◌, ◌-◌, min, Bool, true, false, cond, List, [], ◌∷◌, ltb, eqb, length}
+use Rattle.std.specs.Prelude.{ℕ, zero, suc, ◌+◌, ◌-◌, min, Bool, true, false, cond, List, [], ◌∷◌, ltb, eqb, length, Result, Ok, Err}
+use Rattle.rules.specs.Refusals.{number_of}
 use Rattle.rules.specs.Bytes.{number_at}
 use Rattle.rules.specs.Layout.{
   entry_at,
@@ -64,6 +65,7 @@ use Rattle.rules.specs.declared.Form.{Form}
 use Rattle.rules.specs.declared.Setting.{Setting}
 use Rattle.rules.specs.declared.Entry.{Entry}
 use Rattle.rules.specs.declared.State.{State}
+use Rattle.rules.specs.declared.Refusal.{Refusal}
 use Rattle.rules.specs.declared.Found.{Found}
 use Rattle.rules.specs.declared.Checked.{Checked}
 use Rattle.rules.specs.declared.Browsed.{Browsed}
@@ -97,6 +99,11 @@ pub record Outcome : Type 0 where
   pub number : ℕ
   pub session : State
   pub bytes : List ℕ
+
+-- What a session call answers and leaves: the session that it hands back, and where it is refused the one that stays.
+abbrev pub outcome : State → Result State Refusal → List ℕ → Outcome
+outcome st (Ok after) bytes = record { number = 0; session = after; bytes = bytes }
+outcome st (Err refusal) bytes = record { number = number_of refusal; session = st; bytes = bytes }
 
 -- ---- The rows that calls share
 

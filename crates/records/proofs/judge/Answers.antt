@@ -1,7 +1,7 @@
 -- A record that cannot lie there is row 7's; else its rows are those of the record that was read.
 use mathlib.Core.Path.{refl, ◌∙◌}
 use native.Mathlib.Omega.{arith}
-use Rattle.rules.proofs.Refusals.{handed_on}
+use Rattle.rules.proofs.Refusals.{number-handed_on}
 use Rattle.records.proofs.Fields.{rows_none, none_is, none-sound, rows_apart, is_record, rows_of, rows-sound, record_address}
 use Rattle.records.proofs.judge.Goals as goal
 
@@ -24,7 +24,7 @@ judge_read-requires c =
 pub returns-in_err-judge_read-clause-number : goal.returns-in_err-judge_read-clause-number
 returns-in_err-judge_read-clause-number c =
     let place = c.location_of-place.ensures in
-    rows_of _ _ _ (omega arith) place.0 place.1 c.record_at-record.ensures (handed_on _ _ c.from_residual.ensures.1 ∙ c.in_err-judge_read.ensures)
+    rows_of _ _ _ (omega arith) place.0 place.1 c.record_at-record.ensures (number-handed_on _ _ c.from_residual.ensures.1 ∙ c.in_err-judge_read.ensures)
 
 pub returns : goal.returns
 returns c =

@@ -2,7 +2,7 @@
 use mathlib.Core.Path.{sym, ◌∙◌}
 use native.Mathlib.Omega.{arith}
 use Rattle.rules.proofs.Rows.{row-holds, row_past}
-use Rattle.rules.proofs.Refusals.{handed_on}
+use Rattle.rules.proofs.Refusals.{number-handed_on}
 use Rattle.revisions.proofs.Known.{asked_is, standing_is}
 use Rattle.revisions.proofs.judge_asked.Goals as goal
 
@@ -15,7 +15,7 @@ judge-requires c =
 
 pub returns-in_err-record-clause-number : goal.returns-in_err-record-clause-number
 returns-in_err-record-clause-number c =
-    row_past 6 _ c.revision_unknown.ensures c.if-revision_unknown.false (handed_on _ _ c.from_residual.ensures.1 ∙ c.in_err-record.ensures.number ∙ rw c.asked.ensures)
+    row_past 6 _ c.revision_unknown.ensures c.if-revision_unknown.false (number-handed_on _ _ c.from_residual.ensures.1 ∙ c.in_err-record.ensures.number ∙ rw c.asked.ensures)
 
 pub returns : goal.returns
 returns c =
