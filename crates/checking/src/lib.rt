@@ -4,40 +4,45 @@
 ghost use Rattle.std.specs.Prelude.{◌≡◌};
 ghost use Rattle.rules.specs.Calls.{check_revisions, check};
 ghost use Rattle.whole.specs.Sound.{Sound};
+ghost use Rattle.checking.specs.Faults.{checked};
 
-use rules::{Checked, Setting};
+use rules::{Refusal, Setting};
+
+// A fault, with its revision and its entry; 0 where none is named.
+#[derive(Clone, Copy, Debug, PartialEq, Eq)]
+pub struct Fault {
+    pub refusal: Refusal,
+    pub revision: u64,
+    pub entry: u64,
+}
 
 // The revisions in their order, each record's 7 and 8 and then its pages' 9. The first fault ends both loops.
-fn check_revisions(history: &[u8], s: Setting) -> Checked
+fn check_revisions(history: &[u8], s: Setting) -> Result<(), Fault>
     requires { Sound history.now s }
-    ensures { result ≡ check_revisions history.now s 1 s.count }
+    ensures { checked result ≡ check_revisions history.now s 1 s.count }
 {
-    let mut found = Checked {
-        number: 0,
-        revision: 0,
-        entry: 0,
-    };
-    let end = s.count + 1;
-    'revisions: for k in 1..end {
-        let judged = records::judge(history, s, k);
-        if judged.number != 0 {
-            found = Checked {
-                number: judged.number,
-                revision: k,
-                entry: 0,
-            };
-            break 'revisions;
-        }
-        let x = records::index_in(s, judged.record);
-        let entries = x.entries;
-        for j in 0..entries {
+    let mut found = Ok(());
+    'revisions: for k in 1..=s.count {
+        let record = match records::judge(history, s, k) {
+            Ok(record) => record,
+            Err(refusal) => {
+                found = Err(Fault {
+                    refusal,
+                    revision: k,
+                    entry: 0,
+                });
+                break 'revisions;
+            }
+        };
+        let x = records::index_in(s, record);
+        for j in 0..x.entries {
             let e = index::entry(history, x, j);
             if parts::page_sum_wrong(history, s.form.page, e) {
-                found = Checked {
-                    number: 9,
+                found = Err(Fault {
+                    refusal: Refusal::PageSum,
                     revision: k,
                     entry: j as u64,
-                };
+                });
                 break 'revisions;
             }
         }
@@ -46,16 +51,15 @@ fn check_revisions(history: &[u8], s: Setting) -> Checked
 }
 
 // Rows 1, 2, 3 and 5 first: they name no revision, and only behind them is the history's count known to be one.
-pub fn check(history: &[u8]) -> Checked
-    ensures { result ≡ check history.now }
+pub fn check(history: &[u8]) -> Result<(), Fault>
+    ensures { checked result ≡ check history.now }
 {
-    let judged = whole::judge(history);
-    if judged.number != 0 {
-        return Checked {
-            number: judged.number,
+    match whole::judge(history) {
+        Ok(setting) => check_revisions(history, setting),
+        Err(refusal) => Err(Fault {
+            refusal,
             revision: 0,
             entry: 0,
-        };
+        }),
     }
-    check_revisions(history, judged.setting)
 }

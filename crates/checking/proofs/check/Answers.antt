@@ -1,12 +1,13 @@
 -- Rows 1, 2, 3 and 5 are the first of the check, and the revisions are all that is left of it.
+use mathlib.Core.Path.{refl}
+use Rattle.rules.proofs.Refusals.{refused}
 use Rattle.checking.proofs.Checking.{check_refused, check_passed}
 use Rattle.checking.proofs.check.Goals as goal
 
-pub returns-then-judged-ne0 : goal.returns-then-judged-ne0
-returns-then-judged-ne0 c = check_refused _ c.judge-judged.ensures.number c.if-judged-ne0.true
+pub returns-in-Err : goal.returns-in-Err
+returns-in-Err c = check_refused _ c.in-Err.ensures.number (refused _)
 
-pub returns : goal.returns
-returns c =
-    let whole = c.judge-judged.ensures in
-    let zero = c.if-judged-ne0.false in
-    check_passed _ whole.number zero (whole.sound zero).setting c.check_revisions.ensures
+pub returns-in-Ok : goal.returns-in-Ok
+returns-in-Ok c =
+    let whole = c.in-Ok.ensures in
+    check_passed _ whole.number refl whole.sound.setting c.check_revisions.ensures
