@@ -122,7 +122,7 @@ pub struct Checked {
 
 // A part of the history: where it starts, and its length.
 #[repr(C)]
-#[derive(Clone, Copy)]
+#[derive(Clone, Copy, Default)]
 pub struct Part {
     pub offset: u64,
     pub length: u64,
@@ -131,7 +131,7 @@ pub struct Part {
 // What a history tells its user of itself: the page size, the original's length, how many revisions stand, the committed end, and
 // whether the lock is set and branching allowed. All zeros but the number where it is refused.
 #[repr(C)]
-#[derive(Clone, Copy)]
+#[derive(Clone, Copy, Default)]
 pub struct SettingTold {
     pub number: u64,
     pub page: u64,
@@ -145,7 +145,7 @@ pub struct SettingTold {
 // What a revision's record tells: the revision, its parent, its logical size, the user ID, how many index entries it has, and where its
 // time, name and comment stand. Of the original only its length; all zeros but the number where it is refused.
 #[repr(C)]
-#[derive(Clone, Copy)]
+#[derive(Clone, Copy, Default)]
 pub struct RecordTold {
     pub number: u64,
     pub revision: u64,
