@@ -5,6 +5,7 @@ use mathlib.Core.List.{List}
 use Prim.Native.Nat.{ℕ, ◌+◌, ◌*◌, ◌/◌, ◌≤◌, ◌<◌}
 use native.Mathlib.Nat.{div-lt_iff_lt-mul}
 use native.Mathlib.Omega.{arith}
+use mathlib.Core.Logic.{◌⊎◌, inl, inr}
 use lib.Dec.{ltb, eqb}
 use lib.ListN.{length}
 use borrow.Author.Tests.{eq-eqb, ne_eqb, lt-ltb, le-ltb, ltb-true, ltb-false}
@@ -14,7 +15,15 @@ use Rattle.rules.specs.Calls.{step_end, lent_form, step_entry, browse_step, brow
 use Rattle.rules.specs.declared.Form.{Form}
 use Rattle.rules.specs.declared.Entry.{Entry}
 use Rattle.rules.specs.declared.Step.{Step}
+use Rattle.browsing.specs.declared.Stands.{Stands}
+use Rattle.browsing.specs.declared.Stands.TheVariants.{End, Refused}
+use Rattle.browsing.specs.Answers.{stepped}
 use Rattle.rules.proofs.Places.{entry-least, entries_product, entries-within, entries-least}
+
+-- Only an entry has kind 0.
+pub no_entry : (g : Stands) → (g ≡ End) ⊎ (g ≡ Refused) → (stepped g).kind ≡ 0 → ⊥
+no_entry g (inl e) z = let k : ◌≡◌ {A = ℕ} 1 0 = rw e at z in absurd (omega arith)
+no_entry g (inr e) z = let k : ◌≡◌ {A = ℕ} 7 0 = rw e at z in absurd (omega arith)
 
 -- ---- Room for entries
 

@@ -1,5 +1,5 @@
 -- Document 01, "Refusal numbers".
-use Rattle.std.specs.Prelude.{ℕ, Result, Ok, Err}
+use Rattle.std.specs.Prelude.{ℕ, Result, Ok, Err, Option, Some, None}
 use Rattle.rules.specs.declared.Refusal.{Refusal}
 use Rattle.rules.specs.declared.Refusal.TheVariants.{
   Length,
@@ -51,3 +51,8 @@ number_of NotInOriginal = 20
 abbrev pub told : {A : Type 0} → Result A Refusal → ℕ
 told (Ok x) = 0
 told (Err refusal) = number_of refusal
+
+-- The number of a refusal that is kept, 0 where there is none.
+abbrev pub number_kept : Option Refusal → ℕ
+number_kept None = 0
+number_kept (Some refusal) = number_of refusal

@@ -1,5 +1,5 @@
 -- The tests of the code are those of the rule, once the division tells how many entries there is room for.
-use mathlib.Core.Path.{◌≡◌, ap, ◌∙◌}
+use mathlib.Core.Path.{◌≡◌, refl, ap, ◌∙◌}
 use Prim.Native.Nat.{◌+◌, ◌-◌, ◌≤◌}
 use native.Mathlib.Omega.{arith}
 use lib.ListN.{length}
@@ -31,19 +31,19 @@ lies : (c : After-entries_width) → front_width lent_form + entries_width lent_
 lies c within = omega (arith, c.front_width-front.ensures, c.entries_width.ensures, within)
 
 pub returns-then-room-eq0 : goal.returns-then-room-eq0
-returns-then-room-eq0 c = step-none _ _ c.step_end.ensures c.if-room-eq0.true
+returns-then-room-eq0 c = step-none _ _ refl c.if-room-eq0.true
 
 pub returns-then-room-bare : goal.returns-then-room-bare
-returns-then-room-bare c = step_bare _ _ c.step_end-then-room-bare.ensures c.if-room-eq0.false (omega (arith, c.bare_width-bare.ensures, c.if-room-bare.true))
+returns-then-room-bare c = step_bare _ _ refl c.if-room-eq0.false (omega (arith, c.bare_width-bare.ensures, c.if-room-bare.true))
 
 pub returns-then-most-entries : goal.returns-then-most-entries
 returns-then-most-entries c =
     let bare = c.bare_width-bare in
     let short = room-short lent_form c.entry_width-width.ensures (length c.args.bytes.now - bare.result) c.get_u64-entries.result c.if-most-entries.true in
-    step_refused _ _ (counted (goal.at.returns-then-most-entries c).After-entry_width-width) c.if-room-eq0.false c.step_end-then-most-entries.ensures (omega (arith, bare.ensures, c.if-room-bare.false))
+    step_refused _ _ (counted (goal.at.returns-then-most-entries c).After-entry_width-width) c.if-room-eq0.false refl (omega (arith, bare.ensures, c.if-room-bare.false))
 
 pub returns-then-entries-place : goal.returns-then-entries-place
-returns-then-entries-place c = step_past _ _ (counted (goal.at.returns-then-entries-place c).After-entry_width-width) c.if-room-eq0.false (enough (goal.at.returns-then-entries-place c).Else-most-entries) c.step_end-then-entries-place.ensures (search rules)
+returns-then-entries-place c = step_past _ _ (counted (goal.at.returns-then-entries-place c).After-entry_width-width) c.if-room-eq0.false (enough (goal.at.returns-then-entries-place c).Else-most-entries) refl (search rules)
 
 pub entries_width-requires : goal.entries_width-requires
 entries_width-requires c =
@@ -55,9 +55,9 @@ overflow_add-at c =
     let at = goal.at.overflow_add-at c in
     omega (arith, lies at.After-entries_width (inside at.Else-entries-place (enough at.Else-most-entries)))
 
-pub entry_at-e-requires : goal.entry_at-e-requires
-entry_at-e-requires c =
-    let at = goal.at.entry_at-e-requires c in
+pub entry_at-entry-requires : goal.entry_at-entry-requires
+entry_at-entry-requires c =
+    let at = goal.at.entry_at-entry-requires c in
     omega (arith, lies at.After-entries_width (inside at.Else-entries-place (enough at.Else-most-entries)))
 
 pub overflow_add-at-2 : goal.overflow_add-at-2
@@ -65,10 +65,10 @@ overflow_add-at-2 c =
     let at = goal.at.overflow_add-at-2 c in
     omega (arith, c.entry_sum_at.ensures, lies at.After-entries_width (inside at.Else-entries-place (enough at.Else-most-entries)))
 
-pub get_u32-entry_sum-requires : goal.get_u32-entry_sum-requires
-get_u32-entry_sum-requires c =
-    let at = goal.at.get_u32-entry_sum-requires c in
+pub get_u32-sum-requires : goal.get_u32-sum-requires
+get_u32-sum-requires c =
+    let at = goal.at.get_u32-sum-requires c in
     omega (arith, c.entry_sum_at.ensures, lies at.After-entries_width (inside at.Else-entries-place (enough at.Else-most-entries)))
 
 pub returns : goal.returns
-returns c = step-there _ _ (counted (goal.at.returns c).After-entry_width-width) c.if-room-eq0.false (enough (goal.at.returns c).Else-most-entries) (search rules) (omega (arith, c.front_width-front.ensures, c.entries_width.ensures)) c.entry_at-e.ensures (c.get_u32-entry_sum.ensures.0 ∙ rw c.entry_sum_at.ensures)
+returns c = step-there _ _ (counted (goal.at.returns c).After-entry_width-width) c.if-room-eq0.false (enough (goal.at.returns c).Else-most-entries) (search rules) (omega (arith, c.front_width-front.ensures, c.entries_width.ensures)) c.entry_at-entry.ensures (c.get_u32-sum.ensures.0 ∙ rw c.entry_sum_at.ensures)
