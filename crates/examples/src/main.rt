@@ -3,7 +3,8 @@
 
 ghost use Rattle.std.specs.Prelude.{◌≤◌, length};
 
-use rules::State;
+use browsing::Stands;
+use rules::{Refusal, State};
 use std::io;
 use store::Session;
 
@@ -13,6 +14,14 @@ const ORIGINAL: [u8; 20] = *b"shade net, two bars.";
 const FIRST: [u8; 16] = *b"20240305T070000Z";
 
 const SECOND: [u8; 16] = *b"20240305T091500Z";
+
+// The number that a call answers: 0 where it was accepted.
+fn number<T: Copy>(answered: Result<T, Refusal>) -> u64 {
+    match answered {
+        Ok(_) => 0,
+        Err(refusal) => u64::from(refusal),
+    }
+}
 
 fn say(rt: &impl Print, what: &[u8], number: u64) -> io::Result<()> {
     rt.write_all(what)?;
@@ -38,7 +47,7 @@ fn show_creation(rt: &impl Print, page: u64) -> io::Result<()> {
     say(
         rt,
         b" created",
-        opening::create(&mut history, 20, page, false),
+        number(opening::create(&mut history, 20, page, false)),
     )
 }
 
@@ -71,30 +80,38 @@ fn show_session(rt: &impl Print, session: Session) -> io::Result<()> {
 // Where a revision's page lies in the history.
 fn show_page(rt: &impl Print, history: &[u8], revision: u64, address: u64) -> io::Result<()> {
     let found = lookup::look_up_place(&ORIGINAL, history, revision, address);
-    say(rt, b"  look-up", found.number)?;
-    say(rt, b"  its source", found.source)?;
-    say(rt, b"  its offset", found.offset)?;
-    say(rt, b"  its length", found.length)
+    say(rt, b"  look-up", number(found))?;
+    let Ok(place) = found else {
+        return Ok(());
+    };
+    say(rt, b"  its source", place.source as u64)?;
+    say(rt, b"  its offset", place.offset)?;
+    say(rt, b"  its length", place.length)
 }
 
 // Where the newest revision's record and the whole history lie.
 fn show_places(rt: &impl Print, history: &[u8]) -> io::Result<()> {
-    let record = browsing::browse_place(history, 18446744073709551615);
+    let Ok(record) = browsing::browse_place(history, u64::MAX) else {
+        return Ok(());
+    };
     say(rt, b"  record at", record.offset)?;
     say(rt, b"  of", record.length)?;
-    let judged = whole::judge(history);
-    if judged.number != 0 {
+    let Ok(setting) = whole::judge(history) else {
         return Ok(());
-    }
-    say(rt, b"  whole history at", judged.setting.address)?;
-    say(rt, b"  of", judged.setting.size)
+    };
+    say(rt, b"  whole history at", setting.address)?;
+    say(rt, b"  of", setting.size)
 }
 
 fn show_step(rt: &impl Print, record: &[u8], place: u64) -> io::Result<()> {
-    let step = browsing::step_at(record, place);
-    say(rt, b"  step", step.kind)?;
-    say(rt, b"    logical", step.logical)?;
-    say(rt, b"    physical", step.physical)
+    let (kind, logical, physical) = match browsing::step_at(record, place) {
+        Stands::Entry { entry, .. } => (0, entry.logical, entry.physical),
+        Stands::End => (1, 0, 0),
+        Stands::Refused => (7, 0, 0),
+    };
+    say(rt, b"  step", kind)?;
+    say(rt, b"    logical", logical)?;
+    say(rt, b"    physical", physical)
 }
 
 // The index entries of a revision that has two, and the end behind them.
@@ -113,8 +130,8 @@ fn show_bytes(
     at: u64,
     out: &mut [u8],
 ) -> io::Result<()> {
-    let number = reading::read(&ORIGINAL, history, revision, at, out);
-    say(rt, b"read", number)?;
+    let answered = reading::read(&ORIGINAL, history, revision, at, out);
+    say(rt, b"read", number(answered))?;
     print!(rt; "  ")?;
     rt.write_all(out)?;
     println!(rt)
@@ -209,8 +226,8 @@ fn of_reading(rt: &impl Print, history: &[u8]) -> io::Result<()> {
     show_bytes(rt, history, 1, 20, &mut byte)?;
     show_bytes(rt, history, 2, 20, &mut byte)?;
     show_revisions(rt, history)?;
-    let checked = checking::check(history);
-    say(rt, b"check", checked.number)?;
+    let checked = checking::check(history).map_err(|fault| fault.refusal);
+    say(rt, b"check", number(checked))?;
     if history.len() < 466 {
         return Ok(());
     }
@@ -218,7 +235,11 @@ fn of_reading(rt: &impl Print, history: &[u8]) -> io::Result<()> {
 }
 
 fn of_the_history(rt: &impl Print, history: &mut [u8]) -> io::Result<()> {
-    say(rt, b"create", opening::create(history, 20, 16, false))?;
+    say(
+        rt,
+        b"create",
+        number(opening::create(history, 20, 16, false)),
+    )?;
     of_the_edge(rt, history)?;
     of_the_first(rt, history)?;
     of_the_second(rt, history)?;

@@ -7,18 +7,108 @@ ghost use Rattle.rules.specs.Checksum.{checksum};
 ghost use Rattle.rules.specs.Layout.{limit};
 ghost use Rattle.rules.specs.Listing.{list};
 ghost use Rattle.rules.specs.Telling.{tell_setting, tell_record};
+ghost use Rattle.rules.specs.Refusals.{told};
+ghost use Rattle.lookup.specs.Lies.{found};
+ghost use Rattle.checking.specs.Faults.{checked};
+ghost use Rattle.browsing.specs.Answers.{browsed, stepped};
 ghost use Rattle.listing.specs.Written.{listed};
 ghost use Rattle.rules.specs.Calls.{Reply, Outcome, create, open_for_writing, write, commit, release, read, session_read, look_up, check, browse, browse_step};
 
-use rules::{Browsed, Checked, Found, RecordTold, SettingTold, Step};
+use browsing::Stands;
+use checking::Fault;
+use lookup::Place;
+use rules::{Browsed, Checked, Found, Part, RecordTold, Refusal, SettingTold, Step};
 use store::{Answer, Session};
+
+// ---- What the calls answer, in the numbers that C knows
+
+// 0 where the call was accepted.
+fn number(answered: Result<(), Refusal>) -> u64
+    ensures { result ≡ told answered }
+{
+    match answered {
+        Ok(()) => 0,
+        Err(refusal) => u64::from(refusal),
+    }
+}
+
+fn found(answered: Result<Place, Refusal>) -> Found
+    ensures { result ≡ found answered }
+{
+    match answered {
+        Ok(place) => Found {
+            number: 0,
+            source: place.source as u64,
+            offset: place.offset,
+            length: place.length,
+        },
+        Err(refusal) => Found {
+            number: u64::from(refusal),
+            ..Found::default()
+        },
+    }
+}
+
+fn checked(answered: Result<(), Fault>) -> Checked
+    ensures { result ≡ checked answered }
+{
+    match answered {
+        Ok(()) => Checked::default(),
+        Err(fault) => Checked {
+            number: u64::from(fault.refusal),
+            revision: fault.revision,
+            entry: fault.entry,
+        },
+    }
+}
+
+fn browsed(answered: Result<Part, Refusal>) -> Browsed
+    ensures { result ≡ browsed answered }
+{
+    match answered {
+        Ok(part) => Browsed {
+            number: 0,
+            offset: part.offset,
+            length: part.length,
+        },
+        Err(refusal) => Browsed {
+            number: u64::from(refusal),
+            ..Browsed::default()
+        },
+    }
+}
+
+// Kind 0 is an entry, 1 the end and 7 refused.
+fn stepped(stands: Stands) -> Step
+    ensures { result ≡ stepped stands }
+{
+    match stands {
+        Stands::Entry { entry, sum } => Step {
+            kind: 0,
+            logical: entry.logical,
+            physical: entry.physical,
+            page_sum: entry.checksum,
+            entry_sum: sum,
+        },
+        Stands::End => Step {
+            kind: 1,
+            ..Step::default()
+        },
+        Stands::Refused => Step {
+            kind: 7,
+            ..Step::default()
+        },
+    }
+}
+
+// ---- The calls
 
 #[unsafe(no_mangle)]
 pub extern "C" fn onion_create(history: &mut [u8], original: u64, page: u64, branching: bool) -> u64
     ensures { ◌≡◌ {A = Reply} (record { number = result; bytes = history.new })
         (create history.old original page branching) }
 {
-    opening::create(history, original, page, branching)
+    number(opening::create(history, original, page, branching))
 }
 
 #[unsafe(no_mangle)]
@@ -77,7 +167,7 @@ pub extern "C" fn onion_read(
     ensures { ◌≡◌ {A = Reply} (record { number = result; bytes = out.new })
         (read original.now history.now revision at out.old) }
 {
-    reading::read(original, history, revision, at, out)
+    number(reading::read(original, history, revision, at, out))
 }
 
 #[unsafe(no_mangle)]
@@ -103,14 +193,14 @@ pub extern "C" fn onion_look_up(
 ) -> Found
     ensures { result ≡ look_up original.now history.now revision address }
 {
-    lookup::look_up_place(original, history, revision, address)
+    found(lookup::look_up_place(original, history, revision, address))
 }
 
 #[unsafe(no_mangle)]
 pub extern "C" fn onion_check(history: &[u8]) -> Checked
     ensures { result ≡ check history.now }
 {
-    checking::check(history)
+    checked(checking::check(history))
 }
 
 #[unsafe(no_mangle)]
@@ -138,14 +228,14 @@ pub extern "C" fn onion_list(history: &[u8], out: &mut [u8]) -> u64
 pub extern "C" fn onion_browse(history: &[u8], revision: u64) -> Browsed
     ensures { result ≡ browse history.now revision }
 {
-    browsing::browse_place(history, revision)
+    browsed(browsing::browse_place(history, revision))
 }
 
 #[unsafe(no_mangle)]
 pub extern "C" fn onion_browse_step(record: &[u8], place: u64) -> Step
     ensures { result ≡ browse_step «record».now place }
 {
-    browsing::step_at(record, place)
+    stepped(browsing::step_at(record, place))
 }
 
 #[unsafe(no_mangle)]

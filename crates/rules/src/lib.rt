@@ -103,7 +103,7 @@ pub struct State {
 
 // A page as a part of the original (source 0) or of the history (source 1). All zeros but the number where it is refused.
 #[repr(C)]
-#[derive(Clone, Copy)]
+#[derive(Clone, Copy, Default)]
 pub struct Found {
     pub number: u64,
     pub source: u64,
@@ -113,7 +113,7 @@ pub struct Found {
 
 // The first fault of a history, with its revision and its entry; 0 where none is named.
 #[repr(C)]
-#[derive(Clone, Copy)]
+#[derive(Clone, Copy, Default)]
 pub struct Checked {
     pub number: u64,
     pub revision: u64,
@@ -160,7 +160,7 @@ pub struct RecordTold {
 
 // Where a revision's record stands in the history: of length 0 for revision 0 and where it is refused.
 #[repr(C)]
-#[derive(Clone, Copy)]
+#[derive(Clone, Copy, Default)]
 pub struct Browsed {
     pub number: u64,
     pub offset: u64,
@@ -169,7 +169,7 @@ pub struct Browsed {
 
 // One step of browsing: kind 0 an entry, 1 the end, 7 refused. All zeros but the kind unless it is an entry.
 #[repr(C)]
-#[derive(Clone, Copy)]
+#[derive(Clone, Copy, Default)]
 pub struct Step {
     pub kind: u64,
     pub logical: u64,

@@ -1,11 +1,10 @@
 // A session as its user holds it: a value that each call takes and hands back.
 #![tactic(auto)]
 
-ghost use Rattle.std.specs.Prelude.{◌≡◌};
-ghost use Rattle.rules.specs.Calls.{Outcome, open_for_writing, session_read, write, commit, release};
+ghost use Rattle.std.specs.Prelude.{◌≡◌, List, ℕ};
+ghost use Rattle.rules.specs.Calls.{Outcome, outcome, open_for_writing, session_read, write, commit, release};
 
-use rules::State;
-use sessions::Answered;
+use rules::{Refusal, State};
 
 // Any numbers whatever may stand in a session; row 13 tells whether it is one of the history.
 #[repr(C)]
@@ -22,13 +21,19 @@ pub struct Answer {
     pub session: Session,
 }
 
-fn handed_back(answered: Answered) -> Answer
-    ensures { (result.number ≡ answered.number) × (result.session.state ≡ answered.session) }
+// A refused call hands back the session that stays.
+fn handed_back(answered: Result<State, Refusal>, stays: State) -> Answer
+    ensures { (bytes : List ℕ) → ◌≡◌ {A = Outcome} (record { number = result.number; session = result.session.state; bytes = bytes }) (outcome stays answered bytes) }
 {
-    let state = answered.session;
-    Answer {
-        number: answered.number,
-        session: Session { state },
+    match answered {
+        Ok(state) => Answer {
+            number: 0,
+            session: Session { state },
+        },
+        Err(refusal) => Answer {
+            number: u64::from(refusal),
+            session: Session { state: stays },
+        },
     }
 }
 
@@ -39,7 +44,8 @@ impl Session {
             (session_read self.state original.now history.now at out.old) }
     {
         let state = self.state;
-        handed_back(session_reading::session_read(state, original, history, at, out))
+        let read = session_reading::session_read(state, original, history, at, out);
+        handed_back(read, state)
     }
 
     // Writes bytes from an offset on.
@@ -48,7 +54,8 @@ impl Session {
             (write self.state original.now history.old at bytes.now) }
     {
         let state = self.state;
-        handed_back(writing::write(state, original, history, at, bytes))
+        let written = writing::write(state, original, history, at, bytes);
+        handed_back(written, state)
     }
 
     // Commits what was written as a new revision.
@@ -64,7 +71,8 @@ impl Session {
             (commit self.state history.old time.now user name.now comment.now) }
     {
         let state = self.state;
-        handed_back(committing::commit(state, history, time, user, name, comment))
+        let committed = committing::commit(state, history, time, user, name, comment);
+        handed_back(committed, state)
     }
 
     // Gives up what was written, and clears the lock.
@@ -73,7 +81,8 @@ impl Session {
             (release self.state history.old) }
     {
         let state = self.state;
-        handed_back(opening::release(state, history))
+        let released = opening::release(state, history);
+        handed_back(released, state)
     }
 }
 
@@ -82,5 +91,6 @@ pub fn open_for_writing(original: &[u8], history: &mut [u8], revision: u64) -> A
     ensures { ◌≡◌ {A = Outcome} (record { number = result.number; session = result.session.state; bytes = history.new })
         (open_for_writing original.now history.old revision) }
 {
-    handed_back(opening::open_for_writing(original, history, revision))
+    let opened = opening::open_for_writing(original, history, revision);
+    handed_back(opened, sessions::ended())
 }
