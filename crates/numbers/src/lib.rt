@@ -9,7 +9,27 @@ ghost use Rattle.rules.specs.Layout.{page_allowed};
 pub fn wide(x: u8) -> u64
     ensures { (result ≡ x) × (result < 256) }
 {
-    x as u64
+    u64::from(x)
+}
+
+// The number in the N bytes from an address.
+pub fn get<const N: usize>(bytes: &[u8], at: usize) -> u64
+    requires width { N ≤ 8 }
+    requires inside { at + N ≤ length bytes.now }
+    ensures { (result ≡ number_at N bytes.now at) × (result < 256 ^ N) }
+{
+    let mut whole = [0; 8];
+    whole[..N].copy_from_slice(&bytes[at..at + N]);
+    u64::from_le_bytes(whole)
+}
+
+// Lays a number over the N bytes from an address. What does not fit in them is dropped.
+pub fn put<const N: usize>(bytes: &mut [u8], at: usize, value: u64)
+    requires width { N ≤ 8 }
+    requires inside { at + N ≤ length bytes.old }
+    ensures { bytes.new ≡ laid bytes.old at (number_bytes N value) }
+{
+    bytes[at..at + N].copy_from_slice(&value.to_le_bytes()[..N]);
 }
 
 // The number in the two bytes from an address.
@@ -17,8 +37,8 @@ pub fn get_u16(bytes: &[u8], at: usize) -> u64
     requires { at + 2 ≤ length bytes.now }
     ensures { (result ≡ number_at 2 bytes.now at) × (result < 2 ^ 16) }
 {
-    let low = wide(bytes[at]);
-    let high = wide(bytes[at + 1]);
+    let low = u64::from(bytes[at]);
+    let high = u64::from(bytes[at + 1]);
     low + high * 256
 }
 
@@ -69,16 +89,12 @@ pub fn put_u64(bytes: &mut [u8], at: usize, value: u64)
     put_u32(bytes, at + 4, value / 4294967296);
 }
 
-// Whether the four bytes from an address are a signature. The tests are joined by `&`, which makes no branch: the answer is then the
-// rule's own term.
+// Whether the four bytes from an address are a signature.
 pub fn has_signature(bytes: &[u8], at: usize, signature: [u8; 4]) -> bool
     requires { at + 4 ≤ length bytes.now }
     ensures { result ≡ same (part bytes.now at 4) signature }
 {
-    (bytes[at] == signature[0])
-        & (bytes[at + 1] == signature[1])
-        & (bytes[at + 2] == signature[2])
-        & (bytes[at + 3] == signature[3])
+    bytes[at..at + 4].as_array() == Some(&signature)
 }
 
 // Lays a signature over the four bytes from an address.
@@ -86,24 +102,21 @@ pub fn put_signature(bytes: &mut [u8], at: usize, signature: [u8; 4])
     requires { at + 4 ≤ length bytes.old }
     ensures { bytes.new ≡ laid bytes.old at signature }
 {
-    bytes[at] = signature[0];
-    bytes[at + 1] = signature[1];
-    bytes[at + 2] = signature[2];
-    bytes[at + 3] = signature[3];
+    bytes[at..at + 4].copy_from_slice(&signature);
 }
 
 // The lesser of two numbers.
 pub fn least(a: usize, b: usize) -> usize
     ensures { result ≡ min a b }
 {
-    if a < b { a } else { b }
+    a.min(b)
 }
 
 // The greater of two numbers.
 pub fn most(a: usize, b: usize) -> usize
     ensures { result ≡ max a b }
 {
-    if a < b { b } else { a }
+    a.max(b)
 }
 
 // Whether a number is a multiple of a page size. Page sizes are powers of two, so a mask tells it without a division.
@@ -118,8 +131,5 @@ pub fn multiple(x: u64, page: u64) -> bool
 pub fn below(n: usize, size: usize, at: usize) -> usize
     ensures { result ≡ min n (size - at) }
 {
-    if size <= at {
-        return 0;
-    }
-    least(n, size - at)
+    n.min(size.saturating_sub(at))
 }
