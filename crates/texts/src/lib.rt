@@ -49,7 +49,7 @@ pub fn text_right(text: &[u8]) -> bool
 {
     match text.split_last() {
         Some((last, printed)) => {
-            printed.iter().all(|byte| (0x20..=0x7E).contains(byte)) & (*last == 0)
+            printed.iter().all(|byte| (0x20..=0x7E).contains(byte)) && *last == 0
         }
         None => false,
     }
