@@ -1,65 +1,91 @@
 -- Checksums that stand beside what they are of: of a part, of a page, and of locations or entries, passed one by one.
-use mathlib.Core.Path.{◌≡◌, sym, ◌∙◌}
-use mathlib.Core.Bool.{Bool, true, false, not, ◌&&◌}
-use mathlib.Core.List.{List}
-use Prim.Native.Nat.{ℕ, zero, suc, ◌+◌, ◌*◌, ◌-◌, ◌≤◌, ◌<◌}
-use native.Mathlib.Nat.{add-zero, zero-mul, suc-mul, mul-le-mul_right}
-use native.Mathlib.Numerals.{add-one}
+use mathlib.Core.Path.{◌≡◌, refl, ap, ◌∙◌}
+use mathlib.Core.Bool.{not}
+use mathlib.Core.List.{List, [], ◌∷◌, ◌++◌}
+use Prim.Native.Nat.{ℕ, zero, suc, ◌+◌, ◌*◌, ◌/◌, ◌%◌, ◌-◌, ◌≤◌, ◌<◌}
+use native.Mathlib.Nat.{zero-add, mod-lt, div-mul-le_self, add-zero, zero-mul, suc-mul}
 use native.Mathlib.Omega.{arith}
 use lib.Dec.{eqb}
-use lib.ListN.{take, drop}
-use borrow.Author.Tests.{not-true, not-false}
+use lib.ListN.{length, take, drop, get_or, length-append, length-take, length-drop}
+use lib.Seq.{take_at, drop_at, take-take, drop-drop}
+use Rattle.std.specs.List.{list_all}
+use Rattle.std.proofs.lemmas.List.{drop-take}
+use Rattle.rules.proofs.Bytes.{slice-part, length_part, part-part}
+use Rattle.std.specs.Slice.Iter.{chunks_exact_rest, chunks_exact_size, chunks_exact_steps}
+use Rattle.std.specs.declared.slice.ChunksExact.{ChunksExact}
+use Rattle.std.proofs.lemmas.Iterator.{YieldsList}
+use Rattle.std.proofs.lemmas.Iterator.Splits.{YieldsList-from_shown_while}
+use Rattle.std.proofs.lemmas.Nat.{div-mul-add, div-add-mod'}
 use Rattle.rules.specs.Bytes.{part, number_at}
 use Rattle.rules.specs.Checksum.{checksum}
 use Rattle.rules.specs.Layout.{sum_stands, sums_stand}
 use Rattle.rules.specs.Rows.{page_sum_wrong}
 use Rattle.rules.specs.declared.Entry.{Entry}
 
-sums_step : (w o : ℕ) (h : List ℕ) (at m : ℕ) → 0 < m → sums_stand w o h at m ≡ sum_stands h at 16 (at + o) && sums_stand w o h (at + w) (m - 1)
-unfolding sums_stand
-sums_step w o h at zero l = absurd (omega arith)
-sums_step w o h at (suc m) l = let e : suc m - 1 ≡ m = omega arith in rw e
+-- The first n parts of a width.
+abbrev pub chunks : ℕ → ℕ → List ℕ → List (List ℕ)
+chunks w zero xs = []
+chunks w (suc n) xs = take w xs ∷ chunks w n (drop w xs)
 
--- The first i of n parts of a width, from an address on, have their checksums; the next stands at a place.
-pub record SumsLeft (w o : ℕ) (h : List ℕ) (at n place i : ℕ) : Type 0 where
-  pub within : i ≤ n
-  pub there : place ≡ at + i * w
-  pub left : sums_stand w o h at n ≡ sums_stand w o h place (n - i)
+-- Each is as long as the width, and within the whole.
+chunks-within : (w n : ℕ) (xs : List ℕ) (k : ℕ) (d : List ℕ) → n * w ≤ length xs → k < length (chunks w n xs) → (length (get_or (chunks w n xs) k d) ≡ w) × (w ≤ length xs)
+chunks-within w zero xs k d room h = absurd (omega arith)
+chunks-within w (suc n) xs zero d room h = let s = suc-mul n w in (simp length-take (omega arith), omega arith)
+chunks-within w (suc n) xs (suc k) d room h =
+    let s = suc-mul n w in
+    let r = chunks-within w n (drop w xs) k d (simp length-drop (omega arith)) (omega arith) in
+    (r.0, omega arith)
 
-pub sums-start : (w o : ℕ) (h : List ℕ) (at n : ℕ) → SumsLeft w o h at n at 0
-sums-start w o h at n = let e : n - 0 ≡ n = omega arith in record { within = omega arith; there = rw (zero-mul, add-zero); left = rw e }
+pub chunk-within : (w : ℕ) (xs x : List ℕ) (k : ℕ) → k < length (chunks w (length xs / w) xs) → x ≡ get_or (chunks w (length xs / w) xs) k x → (length x ≡ w) × (length x ≤ length xs)
+chunk-within w xs x k h e =
+    let r = chunks-within w (length xs / w) xs k x (div-mul-le_self (length xs) w) h in
+    let l : length x ≡ w = ap length e ∙ r.0 in
+    (l, omega (arith, r.1))
 
-module _ {w o : ℕ} {h : List ℕ} {at n place i : ℕ} {r : Bool} (l : SumsLeft w o h at n place i) (more : i < n) (f : r ≡ sum_stands h place 16 (place + o)) where
-  pub sums-fault : not r ≡ true → false ≡ sums_stand w o h at n
-  sums-fault g = sym (l.left ∙ sums_step w o h place (n - i) (omega arith) ∙ rw (sym f ∙ not-true r g))
+module _ (w : ℕ) (some : 0 < w) where
+  none-left : (m : ℕ) → m < w → m / w ≡ 0
+  none-left m h = let e = div-mul-add 0 w m h in rw (zero-mul, zero-add) at e
 
-  pub sums_turn : not r ≡ false → SumsLeft w o h at n (place + w) (i + 1)
-  sums_turn g =
-      let e : n - i - 1 ≡ n - (i + 1) = omega arith in
-      record {
-        within = omega arith;
-        there = rw (add-one, suc-mul) (omega (arith, l.there));
-        left = l.left ∙ sums_step w o h place (n - i) (omega arith) ∙ rw (sym f ∙ not-false r g, e);
-      }
+  one-off : (m : ℕ) → (w + m) / w ≡ suc (m / w)
+  one-off m = let e : suc (m / w) * w + m % w ≡ w + m = omega (arith, suc-mul (m / w) w, div-add-mod' m w) in rw (← e) (div-mul-add (suc (m / w)) w (m % w) (mod-lt m some))
 
-pub sums-end : {w o : ℕ} {h : List ℕ} {at n place i : ℕ} → SumsLeft w o h at n place i → n ≤ i → true ≡ sums_stand w o h at n
-unfolding sums_stand
-sums-end {w} {o} {h} {at} {n} {place} {i} l m = let e : n - i ≡ 0 = omega arith in sym (l.left ∙ rw e)
+  cut : (xs x rest : List ℕ) → xs ≡ x ++ rest → length x ≡ w → chunks w (length xs / w) xs ≡ x ∷ chunks w (length rest / w) rest
+  cut xs x rest e l = rw (e, length-append, l, one-off (length rest), take_at x rest w l, drop_at x rest w l)
 
--- The next one lies within all n.
-pub sums-room : {w o : ℕ} {h : List ℕ} {at n place i : ℕ} → SumsLeft w o h at n place i → i < n → place + w ≤ at + n * w
-sums-room {w} {o} {h} {at} {n} {place} {i} l m = let k : suc i * w ≤ n * w = mul-le-mul_right w m in omega (arith, l.there, suc-mul i w)
+  -- The library cuts the whole parts off one by one.
+  pub chunks-yielded : (s : ChunksExact ℕ) → chunks_exact_size s ≡ w
+      → YieldsList chunks_exact_steps (λ x. x.now) s (chunks w (length (chunks_exact_rest s) / w) (chunks_exact_rest s))
+  chunks-yielded s e =
+      YieldsList-from_shown_while chunks_exact_steps (λ x. x.now) (λ t. chunks w (length (chunks_exact_rest t) / w) (chunks_exact_rest t)) (λ t. chunks_exact_size t ≡ w)
+      (λ s t e h. let z = none-left (length (chunks_exact_rest s)) (omega (arith, e, h.1.0)) in rw z)
+      (λ s x t e h. (h.0 ∙ e, cut _ _ _ h.1.0 (h.1.1 ∙ e)))
+      s e
+
+-- At an offset in each part stands the checksum of its first 16 bytes.
+module _ (w o : ℕ) (long : 16 ≤ w) (inside : o + 4 ≤ w) where
+  one : (h : List ℕ) (at : ℕ) → sum_stands (part h at w) 0 16 o ≡ sum_stands h at 16 (at + o)
+  unfolding sum_stands
+  one h at = rw (part-part h at w o 4 inside, part-part h at w 0 16 long, add-zero)
+
+  each : (h : List ℕ) (at n : ℕ) → list_all (λ p. sum_stands p 0 16 o) (chunks w n (part h at (n * w))) ≡ sums_stand w o h at n
+  unfolding sums_stand
+  each h at zero = refl
+  each h at (suc n) =
+      let e : suc n * w ≡ w + n * w = omega (arith, suc-mul n w) in
+      let l : w ≤ w + n * w = omega arith in
+      rw (e, take-take w (w + n * w) (drop at h) l, drop-take, drop-drop, one h at, each h (at + w) n)
+
+  pub sums-all : (h : List ℕ) (at n : ℕ) {rest : List ℕ} → at + n * w ≤ length h → rest ≡ take (at + n * w - at) (drop at h)
+      → list_all (λ p. sum_stands p 0 16 o) (chunks w (length rest / w) rest) ≡ sums_stand w o h at n
+  sums-all h at n room e =
+      let many : n * w / w ≡ n = let d = div-mul-add n w 0 (omega arith) in rw add-zero at d in
+      rw (e, slice-part, length_part h at (n * w) room, many) (each h at n)
 
 -- A stored checksum beside the one worked out.
 pub sum_parts : (h : List ℕ) (at n sum_at : ℕ) {stored sum : ℕ} → stored ≡ number_at 4 h sum_at → sum ≡ checksum (take (at + n - at) (drop at h))
     → eqb stored sum ≡ sum_stands h at n sum_at
 unfolding sum_stands
 sum_parts h at n sum_at e f = let l : at + n - at ≡ n = omega arith in rw (e, f, l)
-
-pub sixteen_parts : (h : List ℕ) (at sum_at : ℕ) {stored sum : ℕ} → stored ≡ number_at 4 h sum_at → sum ≡ checksum (part h at 16)
-    → eqb stored sum ≡ sum_stands h at 16 sum_at
-unfolding sum_stands
-sixteen_parts h at sum_at e f = rw (e, f)
 
 -- The page of an entry beside the entry's checksum of it.
 pub page-sum : (h : List ℕ) (p : ℕ) (e : Entry) (to : ℕ) {sum : ℕ} → to ≡ e.physical + p → sum ≡ checksum (take (to - e.physical) (drop e.physical h))

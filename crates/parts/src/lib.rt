@@ -43,29 +43,14 @@ pub fn sum_stands(history: &[u8], at: usize, n: usize, sum_at: usize) -> bool
     numbers::get_u32(history, sum_at) == checksum::fletcher32(&history[at..to])
 }
 
-// The same of sixteen bytes.
-fn sixteen_stands(history: &[u8], at: usize, sum_at: usize) -> bool
-    requires { (at + 16 ≤ length history.now) × (sum_at + 4 ≤ length history.now) }
-    ensures { result ≡ sum_stands history.now at 16 sum_at }
-{
-    numbers::get_u32(history, sum_at) == checksum::fletcher32_sixteen(history, at)
-}
-
 // The same of n locations or entries of a width from an address on: at an offset in each stands the checksum of its first 16 bytes.
 pub fn sums_stand(history: &[u8], at: usize, n: usize, width: usize, offset: usize) -> bool
     requires { (at + n * width ≤ length history.now) × (length history.now ≤ limit) × (16 ≤ width) × (offset + 4 ≤ width) }
     ensures { result ≡ sums_stand width offset history.now at n }
 {
-    let mut place = at;
-    let mut i: usize = 0;
-    while i < n {
-        if !sixteen_stands(history, place, place + offset) {
-            return false;
-        }
-        place += width;
-        i += 1;
-    }
-    true
+    history[at..at + n * width]
+        .chunks_exact(width)
+        .all(|part| sum_stands(part, 0, 16, offset))
 }
 
 // Stores at the end of a part the checksum of all of it. It is made where the part stands, so nothing is held twice.
