@@ -7,8 +7,8 @@ use Rattle.rules.specs.View.{no_entry, logicals, shown_byte}
 use Rattle.view.specs.declared.View.{View}
 
 -- The bytes of the view, and of the original, counted from an offset.
-abbrev pub shown : List ℕ → List ℕ → View → List ℕ → ℕ → ℕ → ℕ
-shown original history v own from j = shown_byte original history v.index.form.page (entries_in history v.index) v.end own (from + j)
+abbrev pub shown : List ℕ → List ℕ → View → ℕ → ℕ → ℕ
+shown original history v from j = shown_byte original history v.index.form.page (entries_in history v.index) v.end v.own.now (from + j)
 
 abbrev pub original_byte : List ℕ → ℕ → ℕ → ℕ
 original_byte original from j = byte_at original (from + j)
@@ -24,4 +24,4 @@ pub record Seen (history : List ℕ) (v : View) : Type 0 where
   pub rising : Rising (logicals (entries_in history v.index))
   pub multiple : (k : ℕ) → k < v.index.entries → get_or (logicals (entries_in history v.index)) k 0 % v.index.form.page ≡ 0
   pub stored : (k : ℕ) → k < v.index.entries → (get_or (entries_in history v.index) k no_entry).physical + v.index.form.page ≤ length history
-  pub owned : v.end + v.own * v.index.form.page ≤ length history
+  pub owned : v.end + length v.own.now * v.index.form.page ≤ length history

@@ -9,14 +9,14 @@ within : (c : At-loop-place) → c.place_from-last.result ≤ c.args.v.index.ent
 within c = last_within c.requires.0 c.args.first c.args.m c.loop-place.invariant c.place_from-last.ensures
 
 pub loop-place-init : goal.loop-place-init
-loop-place-init c = entries-start _ _ c.args.v _ c.place_from-place.ensures
+loop-place-init c = entries-start _ c.args.v _ c.place_from-start.ensures
 
 pub unowned_wrong-requires : goal.unowned_wrong-requires
-unowned_wrong-requires c = (c.requires.0, c.requires.1, omega (arith, within (goal.at.unowned_wrong-requires c).At-loop-place))
+unowned_wrong-requires c = (c.requires.0, omega (arith, within (goal.at.unowned_wrong-requires c).At-loop-place))
 
 pub returns-then-unowned_wrong : goal.returns-then-unowned_wrong
 returns-then-unowned_wrong c =
-    entries-fault c.requires.0 c.args.first c.args.m c.loop-place.invariant c.place_from-last.ensures c.loop-place-test.true c.unowned_wrong.ensures c.requires.3 c.if-unowned_wrong.true
+    entries-fault c.requires.0 c.args.first c.args.m c.loop-place.invariant c.place_from-last.ensures c.loop-place-test.true c.unowned_wrong.ensures c.requires.2 c.if-unowned_wrong.true
 
 pub loop-place-preserved : goal.loop-place-preserved
 loop-place-preserved c =
