@@ -2,11 +2,11 @@
 #![tactic(auto)]
 
 ghost use Rattle.std.specs.Prelude.{◌≡◌, ◌+◌, ◌≤◌};
-ghost use Rattle.rules.specs.Layout.{limit, entries_in};
+ghost use Rattle.rules.specs.Layout.{limit};
 ghost use Rattle.rules.specs.View.{pages_shared};
-ghost use Rattle.rules.specs.Rows.{read_outside, pages_wrong};
+ghost use Rattle.rules.specs.Rows.{read_outside};
 ghost use Rattle.rules.specs.Calls.{Reply, row, ◌then◌, read};
-ghost use Rattle.view.specs.Seen.{Seen};
+ghost use Rattle.view.specs.Seen.{Seen, unowned_pages_wrong};
 
 use view::View;
 
@@ -24,7 +24,7 @@ fn read_outside(size: u64, at: u64, n: u64) -> bool
 pub fn range_rows(history: &[u8], v: View, size: u64, at: u64, n: usize) -> u64
     requires { (Seen history.now v) × (size ≤ limit) }
     ensures number { result ≡ row 10 (read_outside size at n)
-        then row 9 (pages_wrong v.entry.own.now history.now v.entry.index.form.page (entries_in history.now v.entry.index) (pages_shared v.entry.index.form.page at n)) }
+        then row 9 (unowned_pages_wrong history.now v.entry (pages_shared v.entry.index.form.page at n)) }
     ensures inside { result ≡ 0 → at + n ≤ size }
 {
     if read_outside(size, at, n as u64) {

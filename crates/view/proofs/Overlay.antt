@@ -1,14 +1,14 @@
 -- The session's own pages, laid over the revision's bytes.
 use mathlib.Core.Path.{◌≡◌, refl, ◌∙◌}
 use mathlib.Core.Bool.{true, false, cond}
-use mathlib.Core.List.{List, [], ◌∷◌}
+use mathlib.Core.List.{List, ◌∷◌}
 use mathlib.Core.Logic.{⊎_elim}
 use Prim.Native.Nat.{ℕ, suc, ◌+◌, ◌*◌, ◌-◌, ◌%◌, ◌≤◌, ◌<◌, min, max}
 use native.Mathlib.Nat.{add-zero, suc-mul, zero-mul, div-add-mod', mod-lt}
 use native.Mathlib.Omega.{arith}
 use lib.Dec.{eqb}
-use lib.ListN.{length, take, drop, get_or}
-use lib.Seq.{drop-length, drop-cons, length-take-le}
+use lib.ListN.{length, drop, get_or}
+use lib.Seq.{drop-length, drop-cons}
 use borrow.Author.Tests.{eq-eqb, ne_eqb}
 use Rattle.rules.specs.Bytes.{byte_at, part, laid, tabulate}
 use Rattle.rules.specs.Layout.{entries_in}
@@ -17,7 +17,6 @@ use Rattle.rules.specs.declared.Entry.{Entry}
 use Rattle.rules.proofs.Bytes.{length-tabulate, tabulate-same, byte-tabulate, whole-tabulate, part-laid_table}
 use Rattle.rules.proofs.Entries.{has_cons, either, order}
 use Rattle.rules.proofs.Range.{page-at, page-multiple}
-use Rattle.view.specs.Seen.{shown}
 use Rattle.view.specs.Places.{own_over}
 use Rattle.view.specs.declared.View.{View}
 use Rattle.view.proofs.Pages.{page_size}
@@ -112,6 +111,3 @@ module _ {o h : List ℕ} {v : View} {from n : ℕ} {now : List ℕ} {mine : ℕ
         let s : v.end + (k * page_size v + page_size v) ≡ v.end + k * page_size v + page_size v = omega arith in
         rw (f, m, drop-cons v.own.now k 0 (omega (arith, l.within)), ← ea, over_cons o h (page_size v) (entries_in h v.index) address (drop (suc k) v.own.now) (v.end + k * page_size v) (from + j), suc-mul, s)));
   }
-
-  pub over-end : mine ≡ 0 → now ≡ tabulate n (shown o h v from)
-  over-end e = l.bytes ∙ rw (e, zero-mul, add-zero)

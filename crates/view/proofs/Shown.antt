@@ -2,8 +2,8 @@
 use mathlib.Core.Path.{◌≡◌, refl, sym, ap, ◌∙◌}
 use mathlib.Core.Bool.{cond}
 use mathlib.Core.List.{List}
-use Prim.Native.Nat.{ℕ, zero, suc, ◌+◌, ◌*◌, ◌-◌, ◌%◌, ◌≤◌, ◌<◌, min}
-use native.Mathlib.Nat.{zero-add, add_assoc, mul-le-mul_right, suc-mul}
+use Prim.Native.Nat.{ℕ, zero, suc, ◌+◌, ◌-◌, ◌%◌, ◌≤◌, ◌<◌, min}
+use native.Mathlib.Nat.{zero-add, add_assoc}
 use native.Mathlib.Omega.{arith}
 use lib.ListN.{length, take, drop, get_or, replicate, get_or-eq_default}
 use Rattle.rules.specs.Bytes.{byte_at, part, laid, tabulate}
@@ -24,9 +24,7 @@ use Rattle.rules.proofs.Bytes.{
   tabulate_zeros,
 }
 use Rattle.rules.proofs.Range.{page_of_lem, page-there, entry-there}
-use Rattle.view.specs.Seen.{Seen, original_byte}
-use Rattle.view.specs.declared.View.{View}
-use Rattle.view.proofs.Pages.{page_size}
+use Rattle.view.specs.Seen.{original_byte}
 
 -- ---- The original
 
@@ -105,14 +103,6 @@ module _ {f : ℕ → ℕ} {before now : List ℕ} {done : ℕ} (l : ShownSoFar 
   shown-end h =
       let q : done ≡ length before = omega (arith, l.within) in
       l.bytes ∙ rw q (laid_whole before (tabulate (length before) f) (length-tabulate (length before) f))
-
--- A part of a slice that is named by its ends.
-pub stored_run : (x0 h : List ℕ) (to from n : ℕ) {x1 : List ℕ} → x1 ≡ laid x0 to (take (from + n - from) (drop from h)) → x1 ≡ laid x0 to (part h from n)
-stored_run x0 h to from n e = let q : from + n - from ≡ n = omega arith in e ∙ rw q
-
--- An own page lies in the history.
-pub own_room : {h : List ℕ} {v : View} → Seen h v → (mine : ℕ) → mine < length v.own.now → v.end + mine * page_size v + page_size v ≤ length h
-own_room {h} {v} w mine l = let q : suc mine * page_size v ≤ length v.own.now * page_size v = mul-le-mul_right (page_size v) l in omega (arith, w.owned, suc-mul mine (page_size v))
 
 -- The bytes from a further offset on.
 pub shown_further : (o h : List ℕ) (x : Index) (from done some : ℕ) → tabulate some (revision o h x (from + done)) ≡ tabulate some (λ j. revision o h x from (done + j))

@@ -1,10 +1,18 @@
 -- What a view of a history shows, and what has to hold for it to be read.
-use Rattle.std.specs.Prelude.{◌≡◌, true, List, ℕ, ◌+◌, ◌*◌, ◌%◌, ◌≤◌, ◌<◌, length, get_or}
+use Rattle.std.specs.Prelude.{◌≡◌, Bool, true, not, ◌&&◌, List, ℕ, ◌+◌, ◌*◌, ◌%◌, ◌≤◌, ◌<◌, length, get_or}
 use Rattle.rules.specs.Bytes.{byte_at}
 use Rattle.rules.specs.Layout.{page_allowed, limit, entry_limit, entries_width, entries_in}
 use Rattle.rules.specs.Orders.{Rising}
-use Rattle.rules.specs.View.{no_entry, logicals, shown_byte}
+use Rattle.rules.specs.View.{has, no_entry, logicals, shown_byte}
+use Rattle.rules.specs.Rows.{page_wrong, pages_wrong}
 use Rattle.view.specs.declared.View.{View}
+
+-- Whether a page is damaged that the index has and that is none of the session's own; whether any of several is.
+abbrev pub unowned_wrong : List ℕ → View → ℕ → Bool
+unowned_wrong history v a = not (has v.own.now a) && page_wrong history v.index.form.page (entries_in history v.index) a
+
+abbrev pub unowned_pages_wrong : List ℕ → View → List ℕ → Bool
+unowned_pages_wrong history v pages = pages_wrong v.own.now history v.index.form.page (entries_in history v.index) pages
 
 -- The bytes of the view, and of the original, counted from an offset.
 abbrev pub shown : List ℕ → List ℕ → View → ℕ → ℕ → ℕ

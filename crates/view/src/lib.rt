@@ -2,13 +2,13 @@
 // that has touched no page.
 #![tactic(auto)]
 
-ghost use Rattle.std.specs.Prelude.{◌≡◌, not, ◌&&◌, ◌+◌, ◌*◌, ◌%◌, ◌^◌, ◌≤◌, ◌<◌, length, get_or};
+ghost use Rattle.std.specs.Prelude.{◌≡◌, ◌+◌, ◌*◌, ◌%◌, ◌^◌, ◌≤◌, ◌<◌, length, get_or};
 ghost use Rattle.rules.specs.Bytes.{part, laid, tabulate};
 ghost use Rattle.rules.specs.Layout.{limit, entries_width, entries_in};
-ghost use Rattle.rules.specs.View.{has, logicals, revision_bytes, pages_from, pages_in, pages_shared};
-ghost use Rattle.rules.specs.Rows.{page_wrong, pages_wrong};
+ghost use Rattle.rules.specs.View.{logicals, revision_bytes, pages_from, pages_in, pages_shared};
+ghost use Rattle.rules.specs.Rows.{page_wrong};
 ghost use Rattle.layout.specs.Paged.{farthest};
-ghost use Rattle.view.specs.Seen.{Seen, original_byte, shown};
+ghost use Rattle.view.specs.Seen.{Seen, unowned_wrong, unowned_pages_wrong, original_byte, shown};
 ghost use Rattle.view.specs.Places.{NextStored, own_over};
 
 use rules::Index;
@@ -29,10 +29,9 @@ pub fn page_wrong(history: &[u8], v: View, address: u64) -> bool
     ensures { result ≡ page_wrong history.now v.entry.index.form.page (entries_in history.now v.entry.index) address }
 {
     let x = v.index;
-    let place = index::find(history, x, address);
-    if x.entries <= place {
+    let Some(place) = index::find(history, x, address) else {
         return false;
-    }
+    };
     let e = index::entry(history, x, place);
     parts::page_sum_wrong(history, x.form.page, e)
 }
@@ -41,28 +40,21 @@ pub fn page_wrong(history: &[u8], v: View, address: u64) -> bool
 // counts. A small page is summed sooner than it is looked for among many, and few sums are wrong.
 fn unowned_wrong(history: &[u8], v: View, place: usize) -> bool
     requires { (Seen history.now v) × (place < v.index.entries) }
-    ensures { result ≡ not (has v.entry.own.now (get_or (logicals (entries_in history.now v.entry.index)) place 0))
-        && page_wrong history.now v.entry.index.form.page (entries_in history.now v.entry.index) (get_or (logicals (entries_in history.now v.entry.index)) place 0) }
+    ensures { result ≡ unowned_wrong history.now v.entry (get_or (logicals (entries_in history.now v.entry.index)) place 0) }
 {
     let x = v.index;
     let page = x.form.page;
-    let own = v.own.len();
     let e = index::entry(history, x, place);
-    if page < own as u64 {
-        if !parts::page_sum_wrong(history, page, e) {
-            return false;
-        }
-    }
-    if index::own_place(v.own, own, e.logical) < own {
+    if page < v.own.len() as u64 && !parts::page_sum_wrong(history, page, e) {
         return false;
     }
-    parts::page_sum_wrong(history, page, e)
+    index::own_place(v.own, e.logical).is_none() && parts::page_sum_wrong(history, page, e)
 }
 
 // The same of any of m pages from an address on. The entries of these pages stand together, so no page is searched for.
 fn pages_wrong(history: &[u8], v: View, first: u64, m: usize) -> bool
     requires { (Seen history.now v) × (first + m * v.index.form.page ≤ farthest) × (first % v.index.form.page ≡ 0) }
-    ensures { result ≡ pages_wrong v.entry.own.now history.now v.entry.index.form.page (entries_in history.now v.entry.index) (pages_from v.entry.index.form.page first m) }
+    ensures { result ≡ unowned_pages_wrong history.now v.entry (pages_from v.entry.index.form.page first m) }
 {
     let x = v.index;
     let end = first + m as u64 * x.form.page;
@@ -90,7 +82,7 @@ pub fn pages_in(page: usize, at: usize, n: usize) -> usize
 // Whether any indexed page that n bytes from an offset share a byte with is damaged, but for the session's own.
 pub fn range_wrong(history: &[u8], v: View, at: usize, n: usize) -> bool
     requires { (Seen history.now v) × (at + n ≤ limit) }
-    ensures { result ≡ pages_wrong v.entry.own.now history.now v.entry.index.form.page (entries_in history.now v.entry.index) (pages_shared v.entry.index.form.page at n) }
+    ensures { result ≡ unowned_pages_wrong history.now v.entry (pages_shared v.entry.index.form.page at n) }
 {
     let page = v.index.form.page as usize;
     let m = pages_in(page, at, n);

@@ -14,9 +14,6 @@ hit c = hit-page c.requires.0 c.loop-done.invariant c.loop-done-test.true c.next
 pub loop-done-init : goal.loop-done-init
 loop-done-init c = walked_start _ c.requires.0 c.args.from _ c.place_from-place.ensures
 
-pub entry-e-requires : goal.entry-e-requires
-entry-e-requires c = (c.requires.0.room, (hit (goal.at.entry-e-requires c).Then-next-at).0)
-
 pub overflow_sub-page : goal.overflow_sub-page
 overflow_sub-page c = omega (arith, hit (goal.at.overflow_sub-page c).Then-next-at)
 

@@ -1,13 +1,9 @@
 -- The own pages from one on are laid over the revision's bytes; at the end that is all of them.
 use mathlib.Core.Path.{refl}
-use Prim.Native.Nat.{◌+◌, ◌*◌, ◌-◌, ◌≤◌}
+use Prim.Native.Nat.{◌-◌}
 use native.Mathlib.Omega.{arith}
-use lib.ListN.{length}
-use Rattle.view.proofs.Pages.{page_size}
-use Rattle.view.proofs.Shown.{own_room}
-use Rattle.view.proofs.Overlay.{table-length, over-start, over-length, over_turn, over-end}
+use Rattle.view.proofs.Overlay.{over-start, over_turn}
 use Rattle.view.proofs.put_view.Goals as goal
-use Rattle.view.proofs.put_view.Goals.{At-loop-mine, In-loop-mine}
 
 pub loop-mine-init : goal.loop-mine-init
 loop-mine-init c = over-start _ _ c.args.v c.args.from _ c.put_revision.ensures
