@@ -7,7 +7,9 @@ use native.Mathlib.Nat.{add-zero, zero-mul, mul-le-mul_right, lt_of_mul-lt-mul_r
 use native.Mathlib.Numerals.{add-one}
 use native.Mathlib.Omega.{arith}
 use lib.ListN.{length, take, drop, set}
-use lib.Seq.{take-take}
+use lib.Seq.{take-take, take-length}
+use borrow.Rule.Slice.PartMut.{put_mid}
+use Rattle.std.proofs.lemmas.Slice.{put_mid-paste}
 use Rattle.rules.specs.Bytes.{part, laid, tabulate}
 use Rattle.rules.specs.Layout.{limit, touch_limit, entries_in}
 use Rattle.rules.specs.View.{place_of, has, page_of, own_pages, pages_from, pages_in, pages_shared}
@@ -324,14 +326,26 @@ module _ (o : List ℕ) (s : Setting) (x : Index) (index : List Entry) (offset :
       in-history = rw (slice-part bytes (a - offset) (j * s.form.page), length_part bytes (a - offset) (j * s.form.page) covers) (omega (arith, writing_past all-stored, w.long, add-mul st.n j s.form.page));
     }
 
-    pub writing-stored : {y z : List ℕ}
+    pub noted_long : length (take (st.n + j - st.n) (drop st.n st.pages)) ≡ j
+    noted_long = rw slice-part (length_part st.pages st.n j (omega (arith, all-stored.ready.few, w.ready.full)))
+
+    -- What is noted takes the place of as many pages.
+    noted-laid : (ys : List ℕ) → ys ≡ tabulate (length (take (st.n + j - st.n) (drop st.n st.pages))) (λ i. a + i * s.form.page)
+        → put_mid st.n (st.n + j - st.n) st.pages ys ≡ laid st.pages st.n (tabulate j (λ i. a + i * s.form.page))
+    unfolding laid
+    noted-laid ys e =
+        let over : List ℕ = tabulate j (λ i. a + i * s.form.page) in
+        let long : length over ≡ j = length-tabulate j (λ i. a + i * s.form.page) in
+        put_mid-paste st.n (st.n + j - st.n) st.pages ys over (length over) (rw noted_long at e) (omega arith) refl ∙ rw take-length
+
+    pub writing-stored : {y ys : List ℕ}
         → y ≡ laid h (st.end + st.n * s.form.page) (take (a - offset + j * s.form.page - (a - offset)) (drop (a - offset) bytes))
-        → z ≡ laid st.pages st.n (tabulate j (λ i. a + i * s.form.page))
+        → ys ≡ tabulate (length (take (st.n + j - st.n) (drop st.n st.pages))) (λ i. a + i * s.form.page)
         → Writing m start
-        (record { history = y; session = record { end = st.end; count = st.count; parent = st.parent; size = st.size; n = st.n + j; pages = z } })
+        (record { history = y; session = record { end = st.end; count = st.count; parent = st.parent; size = st.size; n = st.n + j; pages = put_mid st.n (st.n + j - st.n) st.pages ys } })
         (a + j * s.form.page)
         (k + j)
-    writing-stored e f = rw (e, f, slice-part bytes (a - offset) (j * s.form.page)) all-stored
+    writing-stored e f = rw (e, noted-laid _ f, slice-part bytes (a - offset) (j * s.form.page)) all-stored
 
   pub writing-end : {m : ℕ} {start now : Held} {a k : ℕ} → Writing m start now a k → m ≤ k
       → now ≡ written_pages o s index offset bytes (pages_shared s.form.page offset (length bytes)) start

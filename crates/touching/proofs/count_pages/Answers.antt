@@ -25,7 +25,7 @@ room c j l =
 
 none : (c : Then-n-own_place)
     → let a = c.args in
-    has (take a.n a.pages.now) c.loop-k.a ≡ false
+    has a.pages.now c.loop-k.a ≡ false
 none c = own-missing _ _ _ c.requires.entries_in_bounds.2 c.own_place.ensures.0 c.if-n-own_place.true
 
 -- The run ends within the write's pages, and with at most one page too many.
@@ -35,10 +35,10 @@ run : (c : After-new_pages-some)
     let index = entries_in a.history.now a.x in
     let some = c.new_pages-some.result in
     let p = a.x.form.page in
-    Counting index (take a.n a.pages.now) p (page_of p a.offset) c.pages_in-m.result (l.a + some * p) (l.k + some) (l.touched + some) (l.merged + missing index p l.a some)
+    Counting index a.pages.now p (page_of p a.offset) c.pages_in-m.result (l.a + some * p) (l.k + some) (l.touched + some) (l.merged + missing index p l.a some)
 run c =
     let n = c.new_pages-some.ensures in
-    let most = c.least-most.ensures in
+    let most = c.min-most.ensures in
     counting_run _ _ _ _ c.loop-k.invariant c.requires.entries_in_bounds.1 (omega (arith, c.requires.before_value.2.least)) c.new_pages-some.result (omega (arith, most, n.1, c.loop-k-test.true)) (omega (arith, most, n.1, c.if-touched.false)) n.2
 
 pub loop-k-init : goal.loop-k-init
@@ -50,8 +50,8 @@ returns-then-touched c = rw (← c.pages_in-m.ensures) (counted_past c.loop-k.in
 
 pub new_pages-some-requires : goal.new_pages-some-requires
 new_pages-some-requires c =
-    let most = c.least-most.ensures in
-    (c.requires.entries_in_bounds.2, none (goal.at.new_pages-some-requires c).Then-n-own_place, omega (arith, most, c.loop-k-test.true, c.if-touched.false), room (goal.at.new_pages-some-requires c).At-loop-k c.least-most.result (omega (arith, most, c.loop-k-test.true)))
+    let most = c.min-most.ensures in
+    (c.requires.entries_in_bounds.2, none (goal.at.new_pages-some-requires c).Then-n-own_place, omega (arith, most, c.loop-k-test.true, c.if-touched.false), room (goal.at.new_pages-some-requires c).At-loop-k c.min-most.result (omega (arith, most, c.loop-k-test.true)))
 
 pub missing_pages-merged-requires : goal.missing_pages-merged-requires
 missing_pages-merged-requires c =

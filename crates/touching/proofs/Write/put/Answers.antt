@@ -14,23 +14,23 @@ use Rattle.rules.specs.View.{has, own_pages}
 use Rattle.rules.proofs.Range.{own-missing}
 use Rattle.touching.specs.Pages.{Ready, Shares, AllNew}
 use Rattle.touching.proofs.Copies.{room_new, ready_source}
-use Rattle.touching.proofs.Loop.{Fits, writing_start, writing_one, writing_shares, writing_kept, writing-fresh, writing-room, writing-over, writing_new, writing_fits, writing-stored, writing-end}
-use Rattle.touching.proofs.write_pages.Goals as goal
-use Rattle.touching.proofs.write_pages.Goals.{After-new_pages-some, Else-place-before, In-loop-k, Then-place-before}
+use Rattle.touching.proofs.Loop.{Fits, writing_start, writing_one, writing_shares, writing_kept, writing-fresh, writing-room, writing-over, writing_new, writing_fits, noted_long, writing-stored, writing-end}
+use Rattle.touching.proofs.Write.put.Goals as goal
+use Rattle.touching.proofs.Write.put.Goals.{After-new_pages-some, Else-place-before, In-loop-k, Then-place-before}
 
 full : {history : List ℕ} {s : Setting} {x : Index} {index : List Entry} {st : State} {pages : List ℕ} → Ready history s x index st pages → st.n ≤ length st.pages
 full w = omega (arith, w.full, w.few)
 
 -- The next page shares a byte with the write.
 shares : (c : In-loop-k)
-    → let a = c.args in
-    Shares a.s.form.page c.loop-k.a a.offset (length a.bytes.now)
+    → let w = c.args.self.now in
+    Shares w.setting.form.page c.loop-k.a w.offset (length w.bytes.now)
 shares c = writing_shares _ _ _ _ _ _ c.loop-k.invariant c.loop-k-test.true c.requires.bytes_bound
 
 -- It is one of the session's own, and there is room;
 there : (c : Then-place-before)
     → let l = c.loop-k in
-    let page = c.args.s.form.page in
+    let page = c.args.self.now.setting.form.page in
     l.t.end + c.own_place-place.result * page + page ≤ length l.history
 there c =
     writing-room _ _ _ _ _ _ c.loop-k.invariant c.loop-k-test.true (full c.requires.ready) c.own_place-place.ensures.0 c.if-place-before.true
@@ -54,22 +54,21 @@ fresh c = writing-fresh _ _ _ _ _ _ c.loop-k.invariant c.loop-k-test.true (missi
 
 room : (c : Else-place-before)
     → let l = c.loop-k in
-    let page = c.args.s.form.page in
+    let page = c.args.self.now.setting.form.page in
     (l.t.n < touch_limit) × (l.t.end + l.t.n * page + page ≤ length l.history)
 room c = room_new (writing_one _ _ _ _ _ _ c.loop-k.invariant c.loop-k-test.true) (fresh c)
 
 -- The pages of a run are new, and have room too.
 new : (c : After-new_pages-some)
-    → let a = c.args in
-    AllNew (own_pages a.st) a.s.form.page c.loop-k.a c.new_pages-some.result
+    → AllNew (own_pages c.args.st) c.args.self.now.setting.form.page c.loop-k.a c.new_pages-some.result
 new c =
     let kept : take c.args.st.n c.loop-k.t.pages ≡ own_pages c.args.st = writing_kept _ _ _ _ _ _ c.loop-k.invariant c.loop-k-test.true (full c.requires.ready) in
     rw kept at c.new_pages-some.ensures.2
 
 fits : (c : After-new_pages-some)
-    → let a = c.args in
+    → let w = c.args.self.now in
     let l = c.loop-k in
-    Fits a.original.now a.s a.x (entries_in a.history.now a.x) a.offset a.bytes.now c.pages_in-m.result l.history l.t l.a l.k c.new_pages-some.result
+    Fits w.original.now w.setting w.x (entries_in c.args.history.now w.x) w.offset w.bytes.now c.pages_in-m.result l.history l.t l.a l.k c.new_pages-some.result
 fits c =
     let n = c.new_pages-some.ensures in
     writing_fits _ _ _ _ _ _ c.loop-k.invariant c.requires.bytes_bound c.covered-whole.ensures n.0 n.1 (new c)
@@ -105,10 +104,16 @@ loop-k-preserved-then-whole-eq0 c =
 pub put_run-requires : goal.put_run-requires
 put_run-requires c = (fits (goal.at.put_run-requires c).After-new_pages-some).in-history
 
+pub slice_bounds-note_pages-end : goal.slice_bounds-note_pages-end
+slice_bounds-note_pages-end c =
+    omega (arith, (fits (goal.at.slice_bounds-note_pages-end c).After-new_pages-some).in-session, c.loop-k.invariant.ready.full)
+
 pub note_pages-requires : goal.note_pages-requires
 note_pages-requires c =
+    let n = c.new_pages-some.ensures in
     let f = fits (goal.at.note_pages-requires c).After-new_pages-some in
-    (c.loop-k.invariant.ready.full, f.in-session, omega (arith, f.from, f.in_bytes, c.requires.bytes_bound))
+    rw (noted_long _ _ _ _ _ _ c.loop-k.invariant c.requires.bytes_bound c.covered-whole.ensures n.0 n.1 (new (goal.at.note_pages-requires c).After-new_pages-some))
+    (omega (arith, f.from, f.in_bytes, c.requires.bytes_bound))
 
 pub loop-k-preserved : goal.loop-k-preserved
 loop-k-preserved c =

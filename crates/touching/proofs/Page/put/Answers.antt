@@ -5,8 +5,8 @@ use native.Mathlib.Omega.{arith}
 use Rattle.rules.specs.Bytes.{tabulate}
 use Rattle.rules.proofs.Bytes.{laid-nothing}
 use Rattle.touching.proofs.Copies.{page-stored, page-original, source_entry}
-use Rattle.touching.proofs.put_page.Goals as goal
-use Rattle.touching.proofs.put_page.Goals.{After-entry-e}
+use Rattle.touching.proofs.Page.put.Goals as goal
+use Rattle.touching.proofs.Page.put.Goals.{After-entry-e}
 
 -- The stored page lies ahead.
 ahead : (c : After-entry-e) → c.entry-e.result.physical + (c.args.from + c.args.n) ≤ c.args.to
@@ -25,9 +25,11 @@ copy_run-requires c = (omega (arith, ahead (goal.at.copy_run-requires c).After-e
 pub returns-then-place-x : goal.returns-then-place-x
 returns-then-place-x c =
     let a = c.args in
-    page-stored a.original.now _ a.p.x a.to a.p.address a.from a.n c.find-place.ensures.0 c.if-place-x.true c.entry-e.ensures (omega (arith, ahead (goal.at.returns-then-place-x c).After-entry-e, c.requires.0.room)) c.copy_run.ensures
+    let p = a.self.now in
+    page-stored p.original.now _ p.x a.to p.address a.from a.n c.find-place.ensures.0 c.if-place-x.true c.entry-e.ensures (omega (arith, ahead (goal.at.returns-then-place-x c).After-entry-e, c.requires.0.room)) c.copy_run.ensures
 
 pub returns : goal.returns
 returns c =
     let a = c.args in
-    page-original a.original.now _ a.p.x a.to a.p.address a.from a.n c.find-place.ensures.0 c.if-place-x.false c.put_original.ensures
+    let p = a.self.now in
+    page-original p.original.now _ p.x a.to p.address a.from a.n c.find-place.ensures.0 c.if-place-x.false c.put_original.ensures
