@@ -1,19 +1,28 @@
 -- The loops over places: the search by halves among addresses that rise, the one by blocks and then one by one among a session's pages,
 -- and whether these rise.
-use mathlib.Core.Path.{◌≡◌, refl, sym, ◌∙◌}
-use mathlib.Core.Bool.{Bool, true, false, ◌||◌, true≢false}
+use mathlib.Core.Path.{◌≡◌, refl, sym, ap, ◌∙◌}
+use mathlib.Core.Bool.{true, false, true≢false}
 use mathlib.Core.List.{List}
 use mathlib.Core.Logic.{⊎_elim}
-use Prim.Native.Nat.{ℕ, ◌+◌, ◌-◌, ◌≤◌, ◌<◌}
+use Prim.Native.Nat.{ℕ, suc, zero, ◌+◌, ◌-◌, ◌*◌, ◌/◌, ◌%◌, ◌≤◌, ◌<◌}
 use native.Mathlib.Nat.{eq-or-lt_of_le}
 use native.Mathlib.Omega.{arith}
 use borrow.Author.Count.{below_more}
-use borrow.Author.Tests.{eqb-false}
-use lib.Dec.{eqb}
-use lib.ListN.{length, take, get_or}
-use lib.Seq.{length-take-le, get_or-take}
-use Rattle.rules.specs.View.{place_of}
-use Rattle.rules.proofs.Entries.{place_hit, place_miss, order}
+use borrow.Author.Tests.{eq-eqb, ltb-true}
+use denote.Ref.{Bor}
+use lib.Dec.{ltb}
+use lib.ListN.{length, take, drop, get_or, length-drop}
+use lib.Seq.{length-take-le, get_or-take, get_or-drop}
+use Rattle.std.specs.Prelude.{Option, None, Some, IfSome, IsSomeAnd, MatchOption, ◌==◌, nat_lt}
+use Rattle.std.specs.List.{list_any, IsSubsliceAt, AllWithin, HoldsAt, AllAdjacentBelow}
+use Rattle.std.specs.List.{slice_get}
+use Rattle.std.proofs.lemmas.Option.{none-some, slice_get_cases}
+use Rattle.std.specs.Iterator.Runs.{Run}
+use Rattle.std.specs.Slice.Iter.{chunk_count}
+use Rattle.std.proofs.iter.runs.Made.{at-is}
+use Rattle.std.proofs.lemmas.List.Folds.{list_any_at}
+use Rattle.rules.specs.View.{place_of, has}
+use Rattle.rules.proofs.Entries.{place_hit, has-nowhere, order}
 use Rattle.rules.specs.Orders.{Rising}
 use Rattle.index.specs.Places.{Parted, Without}
 
@@ -52,8 +61,8 @@ module _ {xs : List ℕ} {page place : ℕ} (b : Parted xs page place place) whe
   pub search_hit : place < length xs → get_or xs place 0 ≡ page → place ≡ place_of page xs
   search_hit h e = sym (place_hit page xs place h e (λ k l q. omega (arith, b.below k l)))
 
-  pub search_miss : Rising xs → (place < length xs → get_or xs place 0 ≡ page → ⊥) → length xs ≡ place_of page xs
-  search_miss rising other = sym (place_miss page xs none)
+  pub search_miss : Rising xs → (place < length xs → get_or xs place 0 ≡ page → ⊥) → false ≡ has xs page
+  search_miss rising other = sym (has-nowhere xs page none)
     where
       none : (k : ℕ) → k < length xs → get_or xs k 0 ≡ page → ⊥
       none k l e = ⊎_elim
@@ -65,80 +74,76 @@ module _ {xs : List ℕ} {page place : ℕ} (b : Parted xs page place place) whe
 
 -- ---- by blocks
 
--- Four tests, none of which held.
-none-held : (p q r s : Bool) → p || q || r || s ≡ false → (p ≡ false) × (q ≡ false) × (r ≡ false) × (s ≡ false)
-none-held true q r s h = absurd (true≢false h)
-none-held false true r s h = absurd (true≢false h)
-none-held false false true s h = absurd (true≢false h)
-none-held false false false s h = (refl, refl, refl, h)
+-- A value that is there has what holds of it if it is there.
+item : {X : Type 0} (P : X → Type 0) (xs : List X) (k : ℕ) (o : Option X) → o ≡ slice_get xs k → k < length xs → IfSome o P → (x : X) × (o ≡ Some x) × P x
+item P xs k None e h p = absurd (⊎_elim (λ t. none-some t.0 (e ∙ t.2)) (λ t. omega arith) (slice_get_cases xs k).1)
+item P xs k (Some x) e h p = (x, refl, p)
 
-module _ (pages : List ℕ) (page : ℕ) where
-  pub without_both : (from middle to : ℕ) → Without pages from middle page → Without pages middle to page → Without pages from to page
-  without_both from middle to low high k l m e = ⊎_elim (λ g. low k l g e) (λ g. high k (⊎_elim (λ q. omega arith) (λ q. omega arith) g) m e) (order k middle)
+pub of-some : {X : Type 0} {P Q : X → Type 0} (o : Option X) → IsSomeAnd o P → ((x : X) → P x → Q x) → IfSome o Q
+of-some None h f = absurd h
+of-some (Some x) h f = f x h
 
-  without_one : (at : ℕ) → eqb (get_or pages at 0) page ≡ false → (to : ℕ) → to ≡ at + 1 → Without pages at to page
-  without_one at h to q k l m e = let z : k ≡ at = omega arith in eqb-false (get_or pages at 0) page h (rw z at e)
+-- A run over the blocks of sixteen, each of which was asked whether the page is in it.
+module _ {S : Type 0} {steps : S → Option (Bor (List ℕ)) → S → Type 0} (run : Run steps) (pages : List ℕ) (page : ℕ) where
+  abbrev pub Blocks : Type 0
+  Blocks = (b : ℕ) → IfSome (run.at b) (λ x. (0 < length x.now) × (b * 16 < length pages) × IsSubsliceAt 16 pages (b * 16) x.now)
 
-  without_upto : (from end : ℕ) → Without pages from end page → (to : ℕ) → to ≡ end → Without pages from to page
-  without_upto from end w to q k l m e = w k l (omega arith) e
+  -- It is in none of the first n of them.
+  abbrev pub Passed : ℕ → Type 0
+  Passed n = (b : ℕ) → b < n → IfSome (run.at b) (λ x. list_any (λ y. y == page) x.now ≡ false)
 
-  four_runs : (a b c d e : ℕ) → Without pages a b page → Without pages b c page → Without pages c d page → Without pages d e page → Without pages a e page
-  four_runs a b c d e p q r s = without_both a d e (without_both a c d (without_both a b c p q) r) s
+  pub blocks-passed : Blocks → (n : ℕ) → n ≤ run.len → Passed n → (to : ℕ) → to ≤ 16 * n → to ≤ length pages → Without pages to page
+  blocks-passed blocks n ran passed to h fits k l e =
+      let b : k / 16 < n = omega arith in
+      let t = item _ run.items (k / 16) (run.at (k / 16)) (at-is run (k / 16)) (omega (arith, run.long)) (blocks (k / 16)) in
+      let p : list_any (λ y. y == page) t.0.now ≡ false = rw t.1 at (passed (k / 16) b) in
+      let m : k % 16 < length t.0.now = omega (arith, t.2.2.1) in
+      let same : get_or t.0.now (k % 16) 0 ≡ get_or pages k 0 = t.2.2.2 (k % 16) 0 (omega arith) ∙ ap (λ j. get_or pages j 0) (omega arith) in
+      true≢false (sym (list_any_at (λ y. y == page) t.0.now (k % 16) 0 m (eq-eqb _ _ (same ∙ e))) ∙ p)
 
-  pub four-pages : (at : ℕ) → eqb (get_or pages at 0) page || eqb (get_or pages (at + 1) 0) page || eqb (get_or pages (at + 2) 0) page || eqb (get_or pages (at + 3) 0) page ≡ false
-      → Without pages at (at + 4) page
-  four-pages at h =
-      let t = none-held _ _ _ _ h in
-      four_runs at (at + 1) (at + 2) (at + 3) (at + 4)
-      (without_one at t.0 (at + 1) (omega arith))
-      (without_one (at + 1) t.1 (at + 2) (omega arith))
-      (without_one (at + 2) t.2 (at + 3) (omega arith))
-      (without_one (at + 3) t.3 (at + 4) (omega arith))
+  pub blocks-first : Blocks → (run.whole ≡ true → run.len ≡ chunk_count (length pages) 16) → (o : Option ℕ) {P : Type 0} {Q : ℕ → Type 0} → MatchOption o P Q
+      → (P → (run.whole ≡ true) × Passed run.len) → ((i : ℕ) → Q i → (run.len ≡ i + 1) × Passed i)
+      → MatchOption o (Without pages (length pages) page) (λ b. (16 * b < length pages) × Without pages (16 * b) page)
+  blocks-first blocks whole None h none some =
+      let t = none h in
+      let e = whole t.0 in
+      blocks-passed blocks run.len (omega arith) t.1 (length pages) (omega arith) (omega arith)
+  blocks-first blocks whole (Some i) h none some =
+      let t = some i h in
+      let x = item _ run.items i (run.at i) (at-is run i) (omega (arith, run.long)) (blocks i) in
+      (omega (arith, x.2.1), blocks-passed blocks i (omega arith) t.1 (16 * i) (omega arith) (omega (arith, x.2.1)))
 
-  pub four_blocks : (at : ℕ) (p q r s : Bool) → (p ≡ false → Without pages at (at + 4) page) → (q ≡ false → Without pages (at + 4) (at + 4 + 4) page)
-      → (r ≡ false → Without pages (at + 8) (at + 8 + 4) page) → (s ≡ false → Without pages (at + 12) (at + 12 + 4) page)
-      → p || q || r || s ≡ false → Without pages at (at + 16) page
-  four_blocks at p q r s one two three four h =
-      let t = none-held p q r s h in
-      four_runs at (at + 4) (at + 8) (at + 12) (at + 16)
-      (one t.0)
-      (without_upto (at + 4) (at + 4 + 4) (two t.1) (at + 8) (omega arith))
-      (without_upto (at + 8) (at + 8 + 4) (three t.2) (at + 12) (omega arith))
-      (without_upto (at + 12) (at + 12 + 4) (four t.3) (at + 16) (omega arith))
+-- Behind the pages that were passed, one by one.
+module _ (pages : List ℕ) (page n : ℕ) where
+  abbrev pub rest : List ℕ
+  rest = take (length pages - n) (drop n pages)
 
--- ---- one by one
+  length-rest : length rest ≡ length pages - n
+  length-rest = length-take-le (length pages - n) (drop n pages) (omega (arith, length-drop n pages))
 
-module _ (pages : List ℕ) (n : ℕ) (fits : n ≤ length pages) (page : ℕ) where
-  pub own_hit : (place : ℕ) → place < n → ((k : ℕ) → k < place → get_or pages k 0 ≡ page → ⊥) → get_or pages place 0 ≡ page → place ≡ place_of page (take n pages)
-  own_hit place h none e =
-      sym (place_hit page (take n pages) place (rw (length-take-le n pages fits) h) (get_or-take n pages place 0 h ∙ e)
-      (λ k l q. none k l (sym (get_or-take n pages k 0 (omega arith)) ∙ q)))
+  rest-at : (i : ℕ) → n + i < length pages → get_or rest i 0 ≡ get_or pages (n + i) 0
+  rest-at i h = get_or-take (length pages - n) (drop n pages) i 0 (omega arith) ∙ get_or-drop n pages i 0
 
-  pub own_miss : (place : ℕ) → n ≤ place → ((k : ℕ) → k < place → get_or pages k 0 ≡ page → ⊥) → n ≡ place_of page (take n pages)
-  own_miss place h none =
-      let long = length-take-le n pages fits in
-      sym (place_miss page (take n pages) (λ k l q. none k (omega arith) (sym (get_or-take n pages k 0 (omega arith)) ∙ q)) ∙ long)
+  none-ahead : Without pages n page → (i : ℕ) → n + i ≤ length pages → AllWithin (λ y. y ≡ page → ⊥) rest 0 i → Without pages (n + i) page
+  none-ahead passed i fits none k l q = ⊎_elim
+      (λ (g : k < n). passed k g q)
+      (λ g. let f : n ≤ k = ⊎_elim (λ q. omega arith) (λ q. omega arith) g in
+      none (k - n) 0 (omega arith) (omega arith) (rest-at (k - n) (omega arith) ∙ ap (λ j. get_or pages j 0) (omega arith) ∙ q))
+      (order k n)
 
--- ---- whether the pages rise
+  pub own_hit : n ≤ length pages → Without pages n page → (i : ℕ) → i < length rest → HoldsAt (λ y. y ≡ page) rest i → AllWithin (λ y. y ≡ page → ⊥) rest 0 i
+      → (n + i ≡ place_of page pages) × (n + i < length pages)
+  own_hit fits passed i h at none =
+      let l : n + i < length pages = omega (arith, length-rest) in
+      (sym (place_hit page pages (n + i) l (sym (rest-at i l) ∙ at 0) (none-ahead passed i (omega arith) none)), l)
 
--- Those among the first k do.
-abbrev pub RisingTo : List ℕ → ℕ → Type 0
-RisingTo pages k = (i j : ℕ) → i < j → j < k → get_or pages i 0 < get_or pages j 0
+  pub own_miss : n ≤ length pages → Without pages n page → AllWithin (λ y. y ≡ page → ⊥) rest 0 (length rest) → has pages page ≡ false
+  own_miss fits passed none = has-nowhere pages page (λ k l. none-ahead passed (length rest) (omega (arith, length-rest)) none k (omega (arith, length-rest)))
 
-module _ (pages : List ℕ) where
-  pub rising-start : RisingTo pages 1
-  rising-start i j h l = absurd (omega arith)
+-- ---- whether pages rise
 
-  pub rising_turn : (k : ℕ) → 1 ≤ k → RisingTo pages k → get_or pages (k - 1) 0 < get_or pages k 0 → RisingTo pages (k + 1)
-  rising_turn k p s h i j l m = ⊎_elim
-      (λ g. rw g (⊎_elim (λ f. rw f h) (λ f. omega (arith, s i (k - 1) f (omega arith))) (eq-or-lt_of_le (before g))))
-      (λ g. s i j l g)
-      (eq-or-lt_of_le (omega arith))
-    where
-      before : j ≡ k → i ≤ k - 1
-      before g = omega arith
-
-  pub rising-end : (n k : ℕ) → n ≤ length pages → n ≤ k → RisingTo pages k → Rising (take n pages)
-  rising-end n k listed h s i j l m =
-      let q : j < n = omega (arith, length-take-le n pages listed) in
-      rw (get_or-take n pages i 0 (omega arith), get_or-take n pages j 0 q) (s i j l (omega arith))
+pub pairs-rise : (xs : List ℕ) → AllAdjacentBelow (λ x y. true ≡ nat_lt x y) xs (length xs) → Rising xs
+pairs-rise xs h i zero l m = absurd (omega arith)
+pairs-rise xs h i (suc k) l m =
+    let here : get_or xs k 0 < get_or xs (suc k) 0 = ltb-true _ _ (ap (λ j. ltb (get_or xs k 0) (get_or xs j 0)) (omega arith) ∙ sym (h k 0 (omega arith))) in
+    ⊎_elim (λ (g : i ≡ k). rw g here) (λ (g : i < k). omega (arith, pairs-rise xs h i k g (omega arith))) (eq-or-lt_of_le (omega arith))

@@ -8,6 +8,6 @@ pub record Parted (xs : List ℕ) (address low high : ℕ) : Type 0 where
   pub below : (k : ℕ) → k < low → get_or xs k 0 < address
   pub above : (k : ℕ) → high ≤ k → k < length xs → address ≤ get_or xs k 0
 
--- From one place up to another the page does not stand.
-abbrev pub Without : List ℕ → ℕ → ℕ → ℕ → Type 0
-Without pages from to page = (k : ℕ) → from ≤ k → k < to → get_or pages k 0 ≡ page → ⊥
+-- Up to a place the page does not stand.
+abbrev pub Without : List ℕ → ℕ → ℕ → Type 0
+Without pages to page = (k : ℕ) → k < to → get_or pages k 0 ≡ page → ⊥

@@ -2,7 +2,7 @@
 // session's pages.
 #![tactic(auto)]
 
-ghost use Rattle.std.specs.Prelude.{◌≡◌, true, false, ◌+◌, ◌≤◌, ◌<◌, length, take, get_or};
+ghost use Rattle.std.specs.Prelude.{◌≡◌, true, false, ◌+◌, ◌≤◌, ◌*◌, ◌<◌, length, get_or, IfSome, MatchOption, is_some};
 ghost use Rattle.rules.specs.Bytes.{laid};
 ghost use Rattle.rules.specs.Layout.{
   page_sum_at,
@@ -15,7 +15,7 @@ ghost use Rattle.rules.specs.Layout.{
   entries_in,
 };
 ghost use Rattle.rules.specs.Orders.{Rising};
-ghost use Rattle.rules.specs.View.{place_of, logicals};
+ghost use Rattle.rules.specs.View.{place_of, has, logicals, has_page};
 ghost use Rattle.index.specs.Places.{Parted, Without};
 
 use rules::{Entry, Form, Index};
@@ -103,92 +103,47 @@ pub fn place_from(history: &[u8], x: Index, address: u64) -> usize
     low
 }
 
-// The place of a page; the count of the entries where it is not there.
-pub fn find(history: &[u8], x: Index, page: u64) -> usize
+// The place of a page, where it has an entry.
+pub fn find(history: &[u8], x: Index, page: u64) -> Option<usize>
     requires entries_in_bounds { x.at + entries_width x.form x.entries ≤ length history.now }
     requires rising { Rising (logicals (entries_in history.now x)) }
-    ensures { (result ≡ place_of page (logicals (entries_in history.now x))) × (result ≤ x.entries) }
+    ensures place { IfSome result (λ k. (k ≡ place_of page (logicals (entries_in history.now x))) × (k < x.entries)) }
+    ensures found { is_some result ≡ has_page (entries_in history.now x) page }
 {
     let place = place_from(history, x, page);
-    if place < x.entries {
-        if logical(history, x, place) == page {
-            return place;
-        }
+    if place < x.entries && logical(history, x, place) == page {
+        Some(place)
+    } else {
+        None
     }
-    x.entries
 }
 
 // ---- Places among a session's pages, which stand in the order of first touch
 
-// Whether one of the four pages from a place on is this one. Only the answer no tells its caller anything.
-fn any_of_four(pages: &[u32], at: usize, page: u32) -> bool
-    requires { at + 4 ≤ length pages.now }
-    ensures { result ≡ false → Without pages.now at (at + 4) page }
+// The first block of sixteen pages that has a page. A block is compared with no branch for each of its pages, so that the machine
+// compares several at a time.
+fn block_of(pages: &[u32], page: u32) -> Option<usize>
+    ensures { MatchOption result (Without pages.now (length pages.now) page) (λ b. (16 * b < length pages.now) × Without pages.now (16 * b) page) }
 {
-    (pages[at] == page)
-        | (pages[at + 1] == page)
-        | (pages[at + 2] == page)
-        | (pages[at + 3] == page)
+    pages.chunks(16).position(|block| block.contains(&page))
 }
 
-// Whether one of the sixteen pages from a place on is this one. It goes by no branch, so that the machine compares four pages at a time.
-fn any_of_sixteen(pages: &[u32], at: usize, page: u32) -> bool
-    requires { at + 16 ≤ length pages.now }
-    ensures { result ≡ false → Without pages.now at (at + 16) page }
+// The place of a page among a session's, where it is one of them. The pages are numbers of 32 bits and are compared as such.
+pub fn own_place(pages: &[u32], page: u64) -> Option<usize>
+    ensures place { IfSome result (λ k. (k ≡ place_of page pages.now) × (k < length pages.now)) }
+    ensures found { is_some result ≡ has pages.now page }
 {
-    let first = any_of_four(pages, at, page);
-    let second = any_of_four(pages, at + 4, page);
-    let third = any_of_four(pages, at + 8, page);
-    let fourth = any_of_four(pages, at + 12, page);
-    first | second | third | fourth
+    let Ok(sought) = u32::try_from(page) else {
+        return None;
+    };
+    let from = 16 * block_of(pages, sought)?;
+    let inside = pages[from..].iter().position(|own| *own == sought)?;
+    Some(from + inside)
 }
 
-// A place up to which the page does not stand, by blocks of sixteen: that of the first block that has it, or of the last few pages. The
-// pages are numbers of 32 bits and are compared as such; no block is passed for a greater page.
-fn without(pages: &[u32], n: usize, page: u64) -> usize
-    requires { n ≤ length pages.now }
-    ensures { (result ≤ n) × Without pages.now 0 result page }
+// Whether pages rise, as those of one write do. Only the answer yes tells its caller anything.
+pub fn rise(pages: &[u32]) -> bool
+    ensures { result ≡ true → Rising pages.now }
 {
-    if 4294967295 < page {
-        return 0;
-    }
-    let sought = page as u32;
-    let mut at = 0;
-    while 16 <= n - at {
-        if any_of_sixteen(pages, at, sought) {
-            return at;
-        }
-        at += 16;
-    }
-    at
-}
-
-// The place of a page among the first n of a session's pages; n where it is not there.
-pub fn own_place(pages: &[u32], n: usize, page: u64) -> usize
-    requires { n ≤ length pages.now }
-    ensures { (result ≡ place_of page (take n pages.now)) × (result ≤ n) }
-{
-    let mut place = without(pages, n, page);
-    while place < n {
-        if pages[place] as u64 == page {
-            return place;
-        }
-        place += 1;
-    }
-    n
-}
-
-// Whether the first n pages rise, as those of one write do. Only the answer yes tells its caller anything.
-pub fn rise(pages: &[u32], n: usize) -> bool
-    requires { n ≤ length pages.now }
-    ensures { result ≡ true → Rising (take n pages.now) }
-{
-    let mut k = 1;
-    while k < n {
-        if pages[k] <= pages[k - 1] {
-            return false;
-        }
-        k += 1;
-    }
-    true
+    pages.is_sorted_by(|before, after| *before < *after)
 }

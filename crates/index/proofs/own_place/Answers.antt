@@ -1,11 +1,34 @@
--- The page stands nowhere ahead of the place: not where the blocks were passed, and not where it was compared since.
+-- The page stands in no block that was passed, and at the first place behind them that has it.
+use mathlib.Core.Path.{◌≡◌, sym, ◌∙◌}
+use borrow.Author.Rules.{rules}
+use borrow.Author.Tests.{tests, lt-ltb}
 use native.Mathlib.Omega.{arith}
+use Rattle.std.proofs.lemmas.Iterator.{IsFirst-from_position, YieldsList-from_slice}
+use Rattle.std.proofs.lemmas.Option.{MatchOption-at_some, MatchOption-at_none}
+use Rattle.rules.proofs.Entries.{has-nowhere}
 use Rattle.index.proofs.Search.{own_hit, own_miss}
 use Rattle.index.proofs.own_place.Goals as goal
 
-pub returns-then-pages-place : goal.returns-then-pages-place
-returns-then-pages-place c =
-    (own_hit _ _ c.requires _ _ c.loop-place-test.true c.loop-place.invariant.1 c.if-pages-place.true, omega arith)
+pub returns-in_default-clause-found : goal.returns-in_default-clause-found
+returns-in_default-clause-found c =
+    sym (has-nowhere c.args.pages.now c.args.page (λ k l e. c.in_default.ensures (omega (arith, c.type_inv.pages k))))
 
-pub returns : goal.returns
-returns c = (own_miss _ _ c.requires _ _ c.loop-place-test.false c.loop-place.invariant.1, omega arith)
+pub returns-in_err-from-clause-found : goal.returns-in_err-from-clause-found
+returns-in_err-from-clause-found c =
+    rw c.from_residual.ensures (sym (has-nowhere c.args.pages.now c.args.page (λ k l e. c.in_err-from.ensures k l (e ∙ sym c.in-Ok.ensures.1))))
+
+pub returns-in_err-inside-clause-found : goal.returns-in_err-inside-clause-found
+returns-in_err-inside-clause-found c =
+    let none = MatchOption-at_none _ _ c.in_err-inside.was (IsFirst-from_position _ _ _ (λ x. x ≡ c.args.page) (λ x. x ≡ c.args.page → ⊥) c.position.ensures.ran (YieldsList-from_slice _ c.iter.ensures.rest) (λ x q k. search (rules, tests)) (λ x q k. search (rules, tests))) in
+    rw c.from_residual-in_err-inside.ensures (sym (own_miss c.args.pages.now c.args.page _ (omega (arith, c.in_ok-from.ensures.0)) (λ k l q. c.in_ok-from.ensures.1 k l (q ∙ sym c.in-Ok.ensures.1)) none))
+
+pub returns-clause-place : goal.returns-clause-place
+returns-clause-place c =
+    let h = MatchOption-at_some _ _ _ c.in_ok-inside.was (IsFirst-from_position _ _ _ (λ x. x ≡ c.args.page) (λ x. x ≡ c.args.page → ⊥) c.position.ensures.ran (YieldsList-from_slice _ c.iter.ensures.rest) (λ x q k. search (rules, tests)) (λ x q k. search (rules, tests))) in
+    own_hit c.args.pages.now c.args.page _ (omega (arith, c.in_ok-from.ensures.0)) (λ k l q. c.in_ok-from.ensures.1 k l (q ∙ sym c.in-Ok.ensures.1)) _ h.0 h.1 h.2
+
+pub returns-clause-found : goal.returns-clause-found
+returns-clause-found c =
+    let h = MatchOption-at_some _ _ _ c.in_ok-inside.was (IsFirst-from_position _ _ _ (λ x. x ≡ c.args.page) (λ x. x ≡ c.args.page → ⊥) c.position.ensures.ran (YieldsList-from_slice _ c.iter.ensures.rest) (λ x q k. search (rules, tests)) (λ x q k. search (rules, tests))) in
+    let t = own_hit c.args.pages.now c.args.page _ (omega (arith, c.in_ok-from.ensures.0)) (λ k l q. c.in_ok-from.ensures.1 k l (q ∙ sym c.in-Ok.ensures.1)) _ h.0 h.1 h.2 in
+    sym (lt-ltb _ _ (omega arith))
