@@ -187,16 +187,17 @@ module _ (o : List ℕ) (s : Setting) (x : Index) (index : List Entry) (offset :
 
     -- A page that was there ahead of the write is found.
     module _ (full : start.session.n ≤ length start.session.pages) {place : ℕ} (e : place ≡ place_of a (take start.session.n st.pages)) where
-      writing-there : place < start.session.n → (place ≡ place_of a (own_pages st)) × (place < st.n)
+      writing-there : place < length (take start.session.n st.pages) → (place ≡ place_of a (own_pages st)) × (place < st.n)
       writing-there l =
-          let e : place ≡ place_of a (own_pages start.session) = e ∙ ap (place_of a) (writing_kept full) in
-          let b : place_of a (own_pages start.session) < length (own_pages start.session) = omega (arith, own-length start.session full) in
+          let kept = writing_kept full in
+          let e : place ≡ place_of a (own_pages start.session) = e ∙ ap (place_of a) kept in
+          let b : place_of a (own_pages start.session) < length (own_pages start.session) = omega (arith, ap length kept) in
           let f = place-touching a (own_pages start.session) (pages_from s.form.page first k) b in
           let g = touching_grows (own_pages start.session) (pages_from s.form.page first k) in
           let n = own-length st (omega (arith, w.ready.full, w.ready.few)) in
           (rw w.own (e ∙ sym f), omega (arith, ap length w.own))
 
-      pub writing-room : place < start.session.n → st.end + place * s.form.page + s.form.page ≤ length h
+      pub writing-room : place < length (take start.session.n st.pages) → st.end + place * s.form.page + s.form.page ≤ length h
       writing-room l = let t = writing-there l in place-room writing_one (leaves writing_one o (touch_own writing_one o t.0 t.1)) t.0
 
     turn : Shares s.form.page a offset (length bytes) → {after : Held} → after ≡ laid_on_page s offset bytes a (touched o s (entries_in h x) a (record { history = h; session = st }))
@@ -218,7 +219,7 @@ module _ (o : List ℕ) (s : Setting) (x : Index) (index : List Entry) (offset :
         })
 
     module _ (short : offset + length bytes ≤ limit) (full : start.session.n ≤ length start.session.pages) {place : ℕ} (e : place ≡ place_of a (take start.session.n st.pages)) where
-      pub writing-over : {y : List ℕ} → place < start.session.n → y ≡ over_page h (st.end + place * s.form.page) s.form.page a offset bytes
+      pub writing-over : {y : List ℕ} → place < length (take start.session.n st.pages) → y ≡ over_page h (st.end + place * s.form.page) s.form.page a offset bytes
           → Writing m start (record { history = y; session = st }) (a + s.form.page) (k + 1)
       writing-over l q = let t = writing-there full e l in turn (writing_shares short) (own-laid writing_one o offset bytes t.0 t.1 q)
 

@@ -34,14 +34,13 @@ impl Page<'_> {
         if n == 0 {
             return;
         }
-        let x = self.x;
-        let place = index::find(history, x, self.address as u64);
-        if place < x.entries {
-            let e = index::entry(history, x, place);
-            runs::copy_run(history, e.physical as usize + from, to, n);
-            return;
+        match index::find(history, self.x, self.address as u64) {
+            Some(place) => {
+                let e = index::entry(history, self.x, place);
+                runs::copy_run(history, e.physical as usize + from, to, n);
+            }
+            None => view::put_original(history, to, self.original, self.address + from, n),
         }
-        view::put_original(history, to, self.original, self.address + from, n);
     }
 
     // Lays n bytes of the page, from a place in it on: those past the session's size are zero.
@@ -149,8 +148,7 @@ impl<'a> Write<'a> {
         // By hand: a turn passes a page, or a whole run of new ones.
         while k < m {
             let here = a;
-            let place = index::own_place(&t.pages, before, here as u64);
-            if place < before {
+            if let Some(place) = index::own_place(&t.pages[..before], here as u64) {
                 a += page;
                 k += 1;
                 let to = t.end as usize + place * page;
@@ -192,9 +190,8 @@ fn new_pages(pages: &[u32], first: usize, page: usize, most: usize) -> usize
     if pages.is_empty() {
         return most;
     }
-    let n = pages.len();
     (1..most)
-        .find(|k| index::own_place(pages, n, (first + *k * page) as u64) < n)
+        .find(|k| index::own_place(pages, (first + *k * page) as u64).is_some())
         .unwrap_or(most)
 }
 
@@ -226,13 +223,11 @@ fn missing_pages(history: &[u8], x: Index, first: usize, m: usize) -> usize
     let mut place = index::place_from(history, x, first as u64);
     let mut count: usize = 0;
     let mut k: usize = 0;
-    while k < m {
-        if x.entries <= place {
-            return count + (m - k);
-        }
+    // By hand: a turn passes all the pages ahead of an entry, or an entry, or one of both.
+    while k < m && place < x.entries {
         let next = index::logical(history, x, place);
         if end <= next {
-            return count + (m - k);
+            break;
         }
         let here = first as u64 + k as u64 * page;
         if here < next {
@@ -246,7 +241,7 @@ fn missing_pages(history: &[u8], x: Index, first: usize, m: usize) -> usize
             k += 1;
         }
     }
-    count
+    count + (m - k)
 }
 
 // Counts them for a write of `len` bytes at an offset into a session of n pages, whose index would have `before` entries without
@@ -263,19 +258,19 @@ pub fn count_pages(
     requires before_value { (before ≡ merged_count (entries_in history.now x) pages.now) × (before ≤ entry_limit + length pages.now) × (Paged x.form) × (offset + len ≤ limit) }
     ensures { Counted (entries_in history.now x) pages.now (pages_shared x.form.page offset len) result.touched result.merged }
 {
-    let n = pages.len();
     let page = x.form.page as usize;
     let m = view::pages_in(page, offset, len);
-    let mut touched = n;
+    let mut touched = pages.len();
     let mut merged = before;
     let mut a = offset / page * page;
     let mut k: usize = 0;
-    while k < m {
-        if (layout::TOUCHED as usize) < touched {
-            return Counts { touched, merged };
-        }
+    // By hand: a turn passes one of the session's own pages, or a whole run of others.
+    while k < m && touched <= layout::TOUCHED as usize {
         let here = a;
-        if n <= index::own_place(pages, n, here as u64) {
+        if index::own_place(pages, here as u64).is_some() {
+            a += page;
+            k += 1;
+        } else {
             // One page too many is enough to tell.
             let most = (m - k).min(layout::TOUCHED as usize + 1 - touched);
             let some = new_pages(pages, here, page, most);
@@ -283,9 +278,6 @@ pub fn count_pages(
             merged += missing_pages(history, x, here, some);
             a += some * page;
             k += some;
-        } else {
-            a += page;
-            k += 1;
         }
     }
     Counts { touched, merged }

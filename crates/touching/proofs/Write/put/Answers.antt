@@ -1,5 +1,5 @@
 -- After k pages history and session are those of the rule, and the rule's other pages are still to come.
-use mathlib.Core.Path.{◌≡◌}
+use mathlib.Core.Path.{◌≡◌, sym}
 use mathlib.Core.Bool.{false}
 use mathlib.Core.List.{List}
 use Prim.Native.Nat.{ℕ, ◌+◌, ◌*◌, ◌≤◌, ◌<◌}
@@ -16,7 +16,7 @@ use Rattle.touching.specs.Pages.{Ready, Shares, AllNew}
 use Rattle.touching.proofs.Copies.{room_new, ready_source}
 use Rattle.touching.proofs.Loop.{Fits, writing_start, writing_one, writing_shares, writing_kept, writing-fresh, writing-room, writing-over, writing_new, writing_fits, noted_long, writing-stored, writing-end}
 use Rattle.touching.proofs.Write.put.Goals as goal
-use Rattle.touching.proofs.Write.put.Goals.{After-new_pages-some, Else-place-before, In-loop-k, Then-place-before}
+use Rattle.touching.proofs.Write.put.Goals.{After-new_pages-some, In_default, In-loop-k, In-Some}
 
 full : {history : List ℕ} {s : Setting} {x : Index} {index : List Entry} {st : State} {pages : List ℕ} → Ready history s x index st pages → st.n ≤ length st.pages
 full w = omega (arith, w.full, w.few)
@@ -28,31 +28,24 @@ shares : (c : In-loop-k)
 shares c = writing_shares _ _ _ _ _ _ c.loop-k.invariant c.loop-k-test.true c.requires.bytes_bound
 
 -- It is one of the session's own, and there is room;
-there : (c : Then-place-before)
+there : (c : In-Some)
     → let l = c.loop-k in
     let page = c.args.self.now.setting.form.page in
-    l.t.end + c.own_place-place.result * page + page ≤ length l.history
-there c =
-    writing-room _ _ _ _ _ _ c.loop-k.invariant c.loop-k-test.true (full c.requires.ready) c.own_place-place.ensures.0 c.if-place-before.true
+    l.t.end + c.in-Some.place * page + page ≤ length l.history
+there c = writing-room _ _ _ _ _ _ c.loop-k.invariant c.loop-k-test.true (full c.requires.ready) c.in-Some.ensures.place.0 c.in-Some.ensures.place.1
 
 -- or it is none of them, and there is room for one more.
-absent : (c : Else-place-before)
-    → has (take c.args.st.n c.loop-k.t.pages) c.loop-k.a ≡ false
-absent c =
-    -- The session's pages ahead of the write stand in front of those that it touches.
-    let front : c.args.st.n ≤ length c.loop-k.t.pages = omega (arith, c.requires.ready.few, c.loop-k.invariant.ready.full) in
-    own-missing _ _ _ front c.own_place-place.ensures.0 c.if-place-before.false
-
-missing : (c : Else-place-before)
+missing : (c : In_default)
     → has (own_pages c.args.st) c.loop-k.a ≡ false
 missing c =
     let kept : take c.args.st.n c.loop-k.t.pages ≡ own_pages c.args.st = writing_kept _ _ _ _ _ _ c.loop-k.invariant c.loop-k-test.true (full c.requires.ready) in
-    rw kept at (absent c)
+    let absent : has (take c.args.st.n c.loop-k.t.pages) c.loop-k.a ≡ false = sym c.in_default.ensures.found in
+    rw kept at absent
 
-fresh : (c : Else-place-before) → let l = c.loop-k in has (own_pages l.t) l.a ≡ false
+fresh : (c : In_default) → let l = c.loop-k in has (own_pages l.t) l.a ≡ false
 fresh c = writing-fresh _ _ _ _ _ _ c.loop-k.invariant c.loop-k-test.true (missing c)
 
-room : (c : Else-place-before)
+room : (c : In_default)
     → let l = c.loop-k in
     let page = c.args.self.now.setting.form.page in
     (l.t.n < touch_limit) × (l.t.end + l.t.n * page + page ≤ length l.history)
@@ -80,26 +73,26 @@ pub overflow_add-a : goal.overflow_add-a
 overflow_add-a c = let v = shares (goal.at.overflow_add-a c).In-loop-k in omega (arith, v.below, v.short, v.small)
 
 pub put_own-requires : goal.put_own-requires
-put_own-requires c = (shares (goal.at.put_own-requires c).In-loop-k, there (goal.at.put_own-requires c).Then-place-before)
+put_own-requires c = (shares (goal.at.put_own-requires c).In-loop-k, there (goal.at.put_own-requires c).In-Some)
 
-pub loop-k-preserved-then-place-before : goal.loop-k-preserved-then-place-before
-loop-k-preserved-then-place-before c =
-    writing-over _ _ _ _ _ _ c.loop-k.invariant c.loop-k-test.true c.requires.bytes_bound (full c.requires.ready) c.own_place-place.ensures.0 c.if-place-before.true c.put_own.ensures
+pub loop-k-preserved-in-Some : goal.loop-k-preserved-in-Some
+loop-k-preserved-in-Some c =
+    writing-over _ _ _ _ _ _ c.loop-k.invariant c.loop-k-test.true c.requires.bytes_bound (full c.requires.ready) c.in-Some.ensures.place.0 c.in-Some.ensures.place.1 c.put_own.ensures
 
 pub covered-whole-requires : goal.covered-whole-requires
 covered-whole-requires c = (shares (goal.at.covered-whole-requires c).In-loop-k, omega (arith, c.loop-k.invariant.ready.sized.least))
 
 pub put_around-requires : goal.put_around-requires
 put_around-requires c =
-    (shares (goal.at.put_around-requires c).In-loop-k, ready_source (writing_one _ _ _ _ _ _ c.loop-k.invariant c.loop-k-test.true) (fresh (goal.at.put_around-requires c).Else-place-before))
+    (shares (goal.at.put_around-requires c).In-loop-k, ready_source (writing_one _ _ _ _ _ _ c.loop-k.invariant c.loop-k-test.true) (fresh (goal.at.put_around-requires c).In_default))
 
 pub bounds-t-n : goal.bounds-t-n
 bounds-t-n c =
-    omega (arith, room (goal.at.bounds-t-n c).Else-place-before, c.loop-k.invariant.ready.full)
+    omega (arith, room (goal.at.bounds-t-n c).In_default, c.loop-k.invariant.ready.full)
 
 pub loop-k-preserved-then-whole-eq0 : goal.loop-k-preserved-then-whole-eq0
 loop-k-preserved-then-whole-eq0 c =
-    writing_new _ _ _ _ _ _ c.loop-k.invariant c.loop-k-test.true c.requires.bytes_bound (missing (goal.at.loop-k-preserved-then-whole-eq0 c).Else-place-before) c.put_around.ensures
+    writing_new _ _ _ _ _ _ c.loop-k.invariant c.loop-k-test.true c.requires.bytes_bound (missing (goal.at.loop-k-preserved-then-whole-eq0 c).In_default) c.put_around.ensures
 
 pub put_run-requires : goal.put_run-requires
 put_run-requires c = (fits (goal.at.put_run-requires c).After-new_pages-some).in-history
