@@ -163,6 +163,7 @@ module _ (o : List ℕ) (s : Setting) (x : Index) (index : List Entry) (offset :
         let q : suc k * s.form.page ≤ m * s.form.page = mul-le-mul_right s.form.page more in
         let near : first + m * s.form.page < offset + length bytes + s.form.page = rw w.all (pages-end-near s.form.page offset (length bytes) some) in
         record {
+          some = some;
           small = size.most;
           below = omega (arith, w.spot, suc-mul k s.form.page);
           above = omega (arith, w.spot, div-add-mod' offset s.form.page, mod-lt offset some);

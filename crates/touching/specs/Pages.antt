@@ -28,6 +28,7 @@ pub record Source (h : List ℕ) (x : Index) (to from n : ℕ) : Type 0 where
 
 -- A page of p bytes at an address shares a byte with a write of n bytes at an offset.
 pub record Shares (p a offset n : ℕ) : Type 0 where
+  pub some : 0 < p
   pub small : p ≤ 4096
   pub below : a < offset + n
   pub above : offset < a + p

@@ -14,44 +14,14 @@ use rules::{Index, Setting, State};
 
 // ---- One page
 
-// A page as a session shows it before its first touch: the original and the index that may have it, its address, and the session's
-// size, past which it is zero.
+// A write of bytes at an offset, with all that it goes by: the original, and the setting and the index of the session's parent.
 #[derive(Clone, Copy)]
-struct Page<'a> {
-    original: &'a [u8],
-    x: Index,
-    address: usize,
-    size: usize,
-}
-
-impl Page<'_> {
-    // Lays n bytes of the page, from a place in it on: of the stored page, else of the original.
-    fn put(&self, history: &mut [u8], to: usize, from: usize, n: usize)
-        requires { (Source history.old self.now.x to from n) × (self.now.address + from ≤ farthest) }
-        ensures { history.new ≡ laid history.old to (tabulate n (λ j. page_byte self.now.original.now history.old (entries_in history.old self.now.x) self.now.address (from + j))) }
-    {
-        // A page that is written over as a whole is not looked up.
-        if n == 0 {
-            return;
-        }
-        match index::find(history, self.x, self.address as u64) {
-            Some(place) => {
-                let e = index::entry(history, self.x, place);
-                runs::copy_run(history, e.physical as usize + from, to, n);
-            }
-            None => view::put_original(history, to, self.original, self.address + from, n),
-        }
-    }
-
-    // Lays n bytes of the page, from a place in it on: those past the session's size are zero.
-    fn put_kept(&self, history: &mut [u8], to: usize, from: usize, n: usize)
-        requires { (Source history.old self.now.x to from n) × (self.now.address + from ≤ farthest) }
-        ensures { history.new ≡ laid history.old to (tabulate n (λ j. kept_byte self.now.original.now history.old (entries_in history.old self.now.x) self.now.address self.now.size (from + j))) }
-    {
-        let keep = numbers::below(n, self.size, self.address + from);
-        self.put(&mut *history, to, from, keep);
-        runs::put_zeros(history, to + keep, n - keep);
-    }
+pub struct Write<'a> {
+    pub original: &'a [u8],
+    pub setting: Setting,
+    pub index: Index,
+    pub offset: usize,
+    pub bytes: &'a [u8],
 }
 
 // The bytes of a write that fall into a page, behind so many of the page.
@@ -61,125 +31,98 @@ struct Run<'a> {
     bytes: &'a [u8],
 }
 
-// ---- A write
-
-// A write of bytes at an offset, with all that it goes by: the original, and the setting and the index of the session's parent.
+// A page that a write shares a byte with: its address, and the size of the session, which shows zeros past it.
 #[derive(Clone, Copy)]
-pub struct Write<'a> {
-    pub original: &'a [u8],
-    pub setting: Setting,
-    pub x: Index,
-    pub offset: usize,
-    pub bytes: &'a [u8],
+struct Page<'a> {
+    write: &'a Write<'a>,
+    address: usize,
+    size: usize,
+    ghost shares: { Shares write.now.setting.form.page address write.now.offset (length write.now.bytes.now) },
 }
 
-impl<'a> Write<'a> {
-    // The run of it that falls into a page.
-    fn run_in(&self, address: usize) -> Run<'a>
-        requires { Shares self.now.setting.form.page address self.now.offset (length self.now.bytes.now) }
-        ensures { Within self.now.setting.form.page address self.now.offset self.now.bytes.now result.skip result.bytes.now }
+impl<'a> Page<'a> {
+    // Lays n bytes of the page, from a place in it on, before its first touch: of the stored page, else of the original.
+    fn put_parent(&self, history: &mut [u8], to: usize, from: usize, n: usize)
+        requires { (Source history.old self.now.write.now.index to from n) × (self.now.address + from ≤ farthest) }
+        ensures { let w = self.now.write.now in history.new ≡ laid history.old to (tabulate n (λ j. page_byte w.original.now history.old (entries_in history.old w.index) self.now.address (from + j))) }
     {
-        let page = self.setting.form.page as usize;
-        let first = self.offset.max(address);
-        let last = (self.offset + self.bytes.len()).min(address + page);
-        Run {
-            skip: first - address,
-            bytes: &self.bytes[first - self.offset..last - self.offset],
+        // A page that is written over as a whole is not looked up.
+        if n == 0 {
+            return;
+        }
+        let x = self.write.index;
+        match index::find(history, x, self.address as u64) {
+            Some(place) => {
+                let e = index::entry(history, x, place);
+                runs::copy_run(history, e.physical as usize + from, to, n);
+            }
+            None => view::put_original(history, to, self.write.original, self.address + from, n),
         }
     }
 
-    // Lays it over one of the session's own pages, which stands at `to`.
-    fn put_own(&self, history: &mut [u8], to: usize, address: usize)
-        requires { (Shares self.now.setting.form.page address self.now.offset (length self.now.bytes.now)) × (to + self.now.setting.form.page ≤ length history.old) }
-        ensures { history.new ≡ over_page history.old to self.now.setting.form.page address self.now.offset self.now.bytes.now }
+    // The same, with zeros past the session's size.
+    fn put_kept(&self, history: &mut [u8], to: usize, from: usize, n: usize)
+        requires { (Source history.old self.now.write.now.index to from n) × (self.now.address + from ≤ farthest) }
+        ensures { let w = self.now.write.now in history.new ≡ laid history.old to (tabulate n (λ j. kept_byte w.original.now history.old (entries_in history.old w.index) self.now.address self.now.size (from + j))) }
     {
-        let run = self.run_in(address);
+        let keep = numbers::below(n, self.size, self.address + from);
+        self.put_parent(&mut *history, to, from, keep);
+        runs::put_zeros(history, to + keep, n - keep);
+    }
+
+    // The run of the write that falls into it.
+    fn run(&self) -> Run<'a>
+        ensures { let w = self.now.write.now in Within w.setting.form.page self.now.address w.offset w.bytes.now result.skip result.bytes.now }
+    {
+        let write = self.write;
+        let first = write.offset.max(self.address);
+        let last = (write.offset + write.bytes.len()).min(
+            self.address + write.setting.form.page as usize,
+        );
+        Run {
+            skip: first - self.address,
+            bytes: &write.bytes[first - write.offset..last - write.offset],
+        }
+    }
+
+    // Lays the write over it where it is the session's own, and stands at `to`.
+    fn put_own(&self, history: &mut [u8], to: usize)
+        requires { to + self.now.write.now.setting.form.page ≤ length history.old }
+        ensures { let w = self.now.write.now in history.new ≡ over_page history.old to w.setting.form.page self.now.address w.offset w.bytes.now }
+    {
+        let run = self.run();
         runs::put_run(history, to + run.skip, run.bytes);
     }
 
-    // Lays it over the first copy of a page. Only what it leaves of the copy is stored, so each byte is stored once.
-    fn put_around(&self, history: &mut [u8], to: usize, address: usize, size: usize)
-        requires { (Shares self.now.setting.form.page address self.now.offset (length self.now.bytes.now)) × (Source history.old self.now.x to 0 self.now.setting.form.page) }
-        ensures { history.new ≡ over_page (laid history.old to (tabulate self.now.setting.form.page (kept_byte self.now.original.now history.old (entries_in history.old self.now.x) address size))) to self.now.setting.form.page address self.now.offset self.now.bytes.now }
+    // Lays the write over its first copy. Only what the write leaves of the copy is stored, so each byte is stored once.
+    fn put_around(&self, history: &mut [u8], to: usize)
+        requires { Source history.old self.now.write.now.index to 0 self.now.write.now.setting.form.page }
+        ensures { let w = self.now.write.now in history.new ≡ over_page (laid history.old to (tabulate w.setting.form.page (kept_byte w.original.now history.old (entries_in history.old w.index) self.now.address self.now.size))) to w.setting.form.page self.now.address w.offset w.bytes.now }
     {
-        let page = self.setting.form.page as usize;
-        let p = Page {
-            original: self.original,
-            x: self.x,
-            address,
-            size,
-        };
-        let run = self.run_in(address);
+        let run = self.run();
         let behind = run.skip + run.bytes.len();
-        p.put_kept(&mut *history, to, 0, run.skip);
+        let page = self.write.setting.form.page as usize;
+        self.put_kept(&mut *history, to, 0, run.skip);
         runs::put_run(&mut *history, to + run.skip, run.bytes);
-        p.put_kept(&mut *history, to + behind, behind, page - behind);
+        self.put_kept(&mut *history, to + behind, behind, page - behind);
     }
 
-    // How many pages it covers, from one on that shares a byte with it.
-    fn covered(&self, address: usize) -> usize
-        requires { (Shares self.now.setting.form.page address self.now.offset (length self.now.bytes.now)) × (0 < self.now.setting.form.page) }
-        ensures { Covers self.now.setting.form.page address self.now.offset (length self.now.bytes.now) result }
+    // How many pages the write covers from this one on.
+    fn covered(&self) -> usize
+        ensures { let w = self.now.write.now in Covers w.setting.form.page self.now.address w.offset (length w.bytes.now) result }
     {
-        if address < self.offset {
+        let write = self.write;
+        if self.address < write.offset {
             return 0;
         }
-        let page = self.setting.form.page as usize;
-        let rest = self.bytes.len() - (address - self.offset);
+        let page = write.setting.form.page as usize;
+        let rest = write.bytes.len() - (self.address - write.offset);
         // No division for a write of less than a page.
         if rest < page { 0 } else { rest / page }
     }
-
-    // Lays it over each page that it shares a byte with, in rising order. None of them is one that it itself touched before, so only
-    // the pages that the session had ahead of it are searched. New pages that it covers follow each other in the written bytes as in
-    // the history, so they are stored as one run.
-    pub fn put(&self, history: &mut [u8], st: State) -> State
-        requires ready { Ready history.old self.now.setting self.now.x (entries_in history.old self.now.x) st (pages_shared self.now.setting.form.page self.now.offset (length self.now.bytes.now)) }
-        requires bytes_bound { self.now.offset + length self.now.bytes.now ≤ limit }
-        ensures { ◌≡◌ {A = Held} (record { history = history.new; session = result })
-            (written_pages self.now.original.now self.now.setting (entries_in history.old self.now.x) self.now.offset self.now.bytes.now (pages_shared self.now.setting.form.page self.now.offset (length self.now.bytes.now)) (record { history = history.old; session = st })) }
-    {
-        let page = self.setting.form.page as usize;
-        let m = view::pages_in(page, self.offset, self.bytes.len());
-        let before = st.n as usize;
-        let mut t = st;
-        let mut a = self.offset / page * page;
-        let mut k: usize = 0;
-        // By hand: a turn passes a page, or a whole run of new ones.
-        while k < m {
-            let here = a;
-            if let Some(place) = index::own_place(&t.pages[..before], here as u64) {
-                a += page;
-                k += 1;
-                let to = t.end as usize + place * page;
-                self.put_own(&mut *history, to, here);
-            } else {
-                let n = t.n as usize;
-                let to = t.end as usize + n * page;
-                let whole = self.covered(here);
-                if whole == 0 {
-                    a += page;
-                    k += 1;
-                    self.put_around(&mut *history, to, here, t.size as usize);
-                    t.pages[n] = here as u32;
-                    t.n += 1;
-                } else {
-                    let some = new_pages(&t.pages[..before], here, page, whole);
-                    let from = here - self.offset;
-                    let end = from + some * page;
-                    a += some * page;
-                    k += some;
-                    runs::put_run(&mut *history, to, &self.bytes[from..end]);
-                    note_pages(&mut t.pages[n..n + some], here, page);
-                    t.n += some as u64;
-                }
-            }
-        }
-        t
-    }
 }
 
-// ---- New pages
+// ---- All of a write's pages
 
 // How many pages from one on are none of a session's pages, counted up to the most asked for. The first of them is known to be none.
 fn new_pages(pages: &[u32], first: usize, page: usize, most: usize) -> usize
@@ -202,6 +145,60 @@ fn note_pages(pages: &mut [u32], first: usize, page: usize)
 {
     for (k, noted) in pages.iter_mut().enumerate() {
         *noted = (first + k * page) as u32;
+    }
+}
+
+impl Write<'_> {
+    // Lays it over each page that it shares a byte with, in rising order. None of them is one that it itself touched before, so only
+    // the pages that the session had ahead of it are searched. New pages that it covers follow each other in the written bytes as in
+    // the history, so they are stored as one run.
+    pub fn put(&self, history: &mut [u8], st: State) -> State
+        requires ready { Ready history.old self.now.setting self.now.index (entries_in history.old self.now.index) st (pages_shared self.now.setting.form.page self.now.offset (length self.now.bytes.now)) }
+        requires bytes_bound { self.now.offset + length self.now.bytes.now ≤ limit }
+        ensures { ◌≡◌ {A = Held} (record { history = history.new; session = result })
+            (written_pages self.now.original.now self.now.setting (entries_in history.old self.now.index) self.now.offset self.now.bytes.now (pages_shared self.now.setting.form.page self.now.offset (length self.now.bytes.now)) (record { history = history.old; session = st })) }
+    {
+        let page = self.setting.form.page as usize;
+        let m = view::pages_in(page, self.offset, self.bytes.len());
+        let before = st.n as usize;
+        let mut t = st;
+        let mut a = self.offset / page * page;
+        let mut k: usize = 0;
+        // By hand: a turn passes a page, or a whole run of new ones.
+        while k < m {
+            let here = a;
+            let p = Page {
+                write: &*self,
+                address: here,
+                size: t.size as usize,
+            };
+            if let Some(place) = index::own_place(&t.pages[..before], here as u64) {
+                a += page;
+                k += 1;
+                p.put_own(&mut *history, t.end as usize + place * page);
+            } else {
+                let n = t.n as usize;
+                let to = t.end as usize + n * page;
+                let whole = p.covered();
+                if whole == 0 {
+                    a += page;
+                    k += 1;
+                    p.put_around(&mut *history, to);
+                    t.pages[n] = here as u32;
+                    t.n += 1;
+                } else {
+                    let some = new_pages(&t.pages[..before], here, page, whole);
+                    let from = here - self.offset;
+                    let end = from + some * page;
+                    a += some * page;
+                    k += some;
+                    runs::put_run(&mut *history, to, &self.bytes[from..end]);
+                    note_pages(&mut t.pages[n..n + some], here, page);
+                    t.n += some as u64;
+                }
+            }
+        }
+        t
     }
 }
 

@@ -61,7 +61,7 @@ new c =
 fits : (c : After-new_pages-some)
     → let w = c.args.self.now in
     let l = c.loop-k in
-    Fits w.original.now w.setting w.x (entries_in c.args.history.now w.x) w.offset w.bytes.now c.pages_in-m.result l.history l.t l.a l.k c.new_pages-some.result
+    Fits w.original.now w.setting w.index (entries_in c.args.history.now w.index) w.offset w.bytes.now c.pages_in-m.result l.history l.t l.a l.k c.new_pages-some.result
 fits c =
     let n = c.new_pages-some.ensures in
     writing_fits _ _ _ _ _ _ c.loop-k.invariant c.requires.bytes_bound c.covered-whole.ensures n.0 n.1 (new c)
@@ -72,19 +72,22 @@ loop-k-init c = writing_start _ _ _ _ _ _ _ c.pages_in-m.ensures c.requires.read
 pub overflow_add-a : goal.overflow_add-a
 overflow_add-a c = let v = shares (goal.at.overflow_add-a c).In-loop-k in omega (arith, v.below, v.short, v.small)
 
+pub invariant_of-p : goal.invariant_of-p
+invariant_of-p c = record { shares = shares (goal.at.invariant_of-p c).In-loop-k }
+
+pub invariant_of-p-in_default : goal.invariant_of-p-in_default
+invariant_of-p-in_default c = record { shares = shares (goal.at.invariant_of-p-in_default c).In-loop-k }
+
 pub put_own-requires : goal.put_own-requires
-put_own-requires c = (shares (goal.at.put_own-requires c).In-loop-k, there (goal.at.put_own-requires c).In-Some)
+put_own-requires c = there (goal.at.put_own-requires c).In-Some
 
 pub loop-k-preserved-in-Some : goal.loop-k-preserved-in-Some
 loop-k-preserved-in-Some c =
     writing-over _ _ _ _ _ _ c.loop-k.invariant c.loop-k-test.true c.requires.bytes_bound (full c.requires.ready) c.in-Some.ensures.place.0 c.in-Some.ensures.place.1 c.put_own.ensures
 
-pub covered-whole-requires : goal.covered-whole-requires
-covered-whole-requires c = (shares (goal.at.covered-whole-requires c).In-loop-k, omega (arith, c.loop-k.invariant.ready.sized.least))
-
 pub put_around-requires : goal.put_around-requires
 put_around-requires c =
-    (shares (goal.at.put_around-requires c).In-loop-k, ready_source (writing_one _ _ _ _ _ _ c.loop-k.invariant c.loop-k-test.true) (fresh (goal.at.put_around-requires c).In_default))
+    ready_source (writing_one _ _ _ _ _ _ c.loop-k.invariant c.loop-k-test.true) (fresh (goal.at.put_around-requires c).In_default)
 
 pub bounds-t-n : goal.bounds-t-n
 bounds-t-n c =

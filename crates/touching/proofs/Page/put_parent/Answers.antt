@@ -5,8 +5,8 @@ use native.Mathlib.Omega.{arith}
 use Rattle.rules.specs.Bytes.{tabulate}
 use Rattle.rules.proofs.Bytes.{laid-nothing}
 use Rattle.touching.proofs.Copies.{page-stored, page-original, source_entry}
-use Rattle.touching.proofs.Page.put.Goals as goal
-use Rattle.touching.proofs.Page.put.Goals.{After-entry-e}
+use Rattle.touching.proofs.Page.put_parent.Goals as goal
+use Rattle.touching.proofs.Page.put_parent.Goals.{After-entry-e}
 
 -- The stored page lies ahead.
 ahead : (c : After-entry-e) → c.entry-e.result.physical + (c.args.from + c.args.n) ≤ c.args.to
@@ -26,11 +26,13 @@ pub returns-in-Some : goal.returns-in-Some
 returns-in-Some c =
     let a = c.args in
     let p = a.self.now in
+    let w = p.write.now in
     let there = c.in-Some.ensures.place in
-    page-stored p.original.now _ p.x a.to p.address a.from a.n there.0 there.1 c.entry-e.ensures (omega (arith, ahead (goal.at.returns-in-Some c).After-entry-e, c.requires.0.room)) c.copy_run.ensures
+    page-stored w.original.now _ w.index a.to p.address a.from a.n there.0 there.1 c.entry-e.ensures (omega (arith, ahead (goal.at.returns-in-Some c).After-entry-e, c.requires.0.room)) c.copy_run.ensures
 
 pub returns-in-None : goal.returns-in-None
 returns-in-None c =
     let a = c.args in
     let p = a.self.now in
-    page-original p.original.now _ p.x a.to p.address a.from a.n c.in-None.ensures.found c.put_original.ensures
+    let w = p.write.now in
+    page-original w.original.now _ w.index a.to p.address a.from a.n c.in-None.ensures.found c.put_original.ensures
