@@ -57,6 +57,12 @@ unfolding missing
 passing-start index p first m b =
     record { within = omega arith; small = omega arith; passed = λ i l. rw (zero-mul, add-zero) (b.below i l); counts = refl }
 
+-- No page is left,
+pub passing-end : {index : List Entry} {p first m k place count : ℕ} → Passing index p first m k place count → m ≤ k → count + (m - k) ≡ missing index p first m
+passing-end {index} {p} {first} {m} {k} c l =
+    let e : k ≡ m = omega (arith, c.within) in
+    omega (arith, c.counts, ap (missing index p first) e)
+
 module _ {index : List Entry} {p first m k place count : ℕ} (c : Passing index p first m k place count) (rising : Rising (logicals index)) where
   -- A page behind the passed entries and ahead of the next has no entry.
   absent : (a : ℕ) → first + k * p ≤ a → (place < length (logicals index) → a < get_or (logicals index) place 0) → has_page index a ≡ false
@@ -73,7 +79,7 @@ module _ {index : List Entry} {p first m k place count : ℕ} (c : Passing index
   pass : (j : ℕ) → ((i : ℕ) → i < j → place < length (logicals index) → first + (k + i) * p < get_or (logicals index) place 0) → missing index p first (k + j) ≡ count + j
   pass j high = missing_run index p first k j (λ i q. absent (first + (k + i) * p) (omega (arith, add-mul k i p)) (high i q)) ∙ omega (arith, c.counts)
 
-  -- No entry is left that is not behind all pages,
+  -- or no entry is left that is not behind all pages,
   pub passing_rest : 0 < p → (place < length (logicals index) → first + m * p ≤ get_or (logicals index) place 0) → count + (m - k) ≡ missing index p first m
   passing_rest pos past =
       let e : k + (m - k) ≡ m = omega (arith, c.within) in
