@@ -1,13 +1,15 @@
 // Reading a revision. A revision is read as a session that has touched no page, so what both have in common stands here.
 #![tactic(auto)]
 
-ghost use Rattle.std.specs.Prelude.{◌≡◌, ◌+◌, ◌≤◌};
+ghost use Rattle.std.specs.Prelude.{◌≡◌, ◌+◌, ◌≤◌, OnOk};
 ghost use Rattle.rules.specs.Layout.{limit};
 ghost use Rattle.rules.specs.View.{pages_shared};
 ghost use Rattle.rules.specs.Rows.{read_outside};
 ghost use Rattle.rules.specs.Calls.{Reply, row, ◌then◌, read};
+ghost use Rattle.rules.specs.Refusals.{told};
 ghost use Rattle.view.specs.Seen.{Seen, unowned_pages_wrong};
 
+use rules::Refusal;
 use view::View;
 
 // Row 10 of a read. The offset may be any number, so no sum is made.
@@ -21,40 +23,40 @@ fn read_outside(size: u64, at: u64, n: u64) -> bool
 }
 
 // Rows 10 and 9 of a read of n bytes from an offset on, by the logical size and the view of what is read.
-pub fn range_rows(history: &[u8], v: View, size: u64, at: u64, n: usize) -> u64
+pub fn range_rows(history: &[u8], v: View, size: u64, at: u64, n: usize) -> Result<(), Refusal>
     requires { (Seen history.now v) × (size ≤ limit) }
-    ensures number { result ≡ row 10 (read_outside size at n)
+    ensures number { told result ≡ row 10 (read_outside size at n)
         then row 9 (unowned_pages_wrong history.now v.entry (pages_shared v.entry.index.form.page at n)) }
-    ensures inside { result ≡ 0 → at + n ≤ size }
+    ensures inside { OnOk result (at + n ≤ size) }
 {
     if read_outside(size, at, n as u64) {
-        return 10;
+        return Err(Refusal::Outside);
     }
     if view::range_wrong(history, v, at as usize, n) {
-        return 9;
+        return Err(Refusal::PageSum);
     }
-    0
+    Ok(())
 }
 
 // Reads the bytes of a revision from an offset on into a buffer, which it fills entirely. A refusal leaves the buffer alone.
-pub fn read(original: &[u8], history: &[u8], revision: u64, at: u64, out: &mut [u8]) -> u64
-    ensures { ◌≡◌ {A = Reply} (record { number = result; bytes = out.new })
+pub fn read(
+    original: &[u8],
+    history: &[u8],
+    revision: u64,
+    at: u64,
+    out: &mut [u8],
+) -> Result<(), Refusal>
+    ensures { ◌≡◌ {A = Reply} (record { number = told result; bytes = out.new })
         (read original.now history.now revision at out.old) }
 {
-    let judged = revisions::judge(original, history, revision);
-    if judged.number != 0 {
-        return judged.number;
-    }
+    let judged = revisions::judge(original, history, revision)?;
     let r = judged.record;
     let v = View {
         index: records::index_in(judged.setting, r),
         end: 0,
         own: &[],
     };
-    let number = range_rows(history, v, r.logical, at, out.len());
-    if number != 0 {
-        return number;
-    }
+    range_rows(history, v, r.logical, at, out.len())?;
     view::put_view(out, original, history, v, at as usize);
-    0
+    Ok(())
 }

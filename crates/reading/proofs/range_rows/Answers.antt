@@ -5,8 +5,8 @@ use Rattle.rules.proofs.Rows.{row-holds, row_past, last-holds, last_past}
 use Rattle.reading.proofs.Steps.{inside_fits}
 use Rattle.reading.proofs.range_rows.Goals as goal
 
-pub returns-then-read_outside : goal.returns-then-read_outside
-returns-then-read_outside c = record { number = row-holds 10 _ (omega arith) c.read_outside.ensures c.if-read_outside.true; inside = λ z. absurd (omega arith) }
+pub returns-then-read_outside-clause-number : goal.returns-then-read_outside-clause-number
+returns-then-read_outside-clause-number c = row-holds 10 _ (omega arith) c.read_outside.ensures c.if-read_outside.true
 
 pub range_wrong-requires : goal.range_wrong-requires
 range_wrong-requires c =
@@ -14,11 +14,11 @@ range_wrong-requires c =
     let a = c.args in
     (p.0, omega (arith, inside_fits a.size a.at a.n (sym c.read_outside.ensures ∙ c.if-read_outside.false), p.1))
 
-pub returns-then-range_wrong : goal.returns-then-range_wrong
-returns-then-range_wrong c = record { number = row_past 10 _ c.read_outside.ensures c.if-read_outside.false (last-holds 9 c.range_wrong.ensures c.if-range_wrong.true); inside = λ z. absurd (omega arith) }
+pub returns-then-range_wrong-clause-number : goal.returns-then-range_wrong-clause-number
+returns-then-range_wrong-clause-number c = row_past 10 _ c.read_outside.ensures c.if-read_outside.false (last-holds 9 c.range_wrong.ensures c.if-range_wrong.true)
 
 pub returns : goal.returns
 returns c =
     let a = c.args in
     let within = inside_fits a.size a.at a.n (sym c.read_outside.ensures ∙ c.if-read_outside.false) in
-    record { number = row_past 10 _ c.read_outside.ensures c.if-read_outside.false (last_past 9 c.range_wrong.ensures c.if-range_wrong.false); inside = λ z. within }
+    record { number = row_past 10 _ c.read_outside.ensures c.if-read_outside.false (last_past 9 c.range_wrong.ensures c.if-range_wrong.false); inside = within }
