@@ -2,7 +2,8 @@
 // session's pages.
 #![tactic(auto)]
 
-ghost use Rattle.std.specs.Prelude.{◌≡◌, true, false, ◌+◌, ◌≤◌, ◌*◌, ◌<◌, length, get_or, IfSome, MatchOption, is_some};
+ghost use Rattle.std.specs.Prelude.{◌≡◌, true, false, ◌+◌, ◌≤◌, ◌*◌, ◌<◌, ◌==◌, length, get_or, IfSome, is_some};
+ghost use Rattle.std.specs.List.{list_any};
 ghost use Rattle.rules.specs.Bytes.{laid};
 ghost use Rattle.rules.specs.Layout.{
   page_sum_at,
@@ -120,12 +121,22 @@ pub fn find(history: &[u8], x: Index, page: u64) -> Option<usize>
 
 // ---- Places among a session's pages, which stand in the order of first touch
 
-// The first block of sixteen pages that has a page. A block is compared with no branch for each of its pages, so that the machine
-// compares several at a time.
-fn block_of(pages: &[u32], page: u32) -> Option<usize>
-    ensures { MatchOption result (Without pages.now (length pages.now) page) (λ b. (16 * b < length pages.now) × Without pages.now (16 * b) page) }
+// Whether a page is one of these. It is compared with each of them and goes by no branch, so that the machine compares several of a
+// block at a time.
+fn any_is(pages: &[u32], page: u32) -> bool
+    ensures { result ≡ list_any (λ own. own == page) pages.now }
 {
-    pages.chunks(16).position(|block| block.contains(&page))
+    pages.iter().fold(false, |any, own| any | (*own == page))
+}
+
+// How many blocks of sixteen pages are passed, ahead of the first that has a page.
+fn passed_blocks(pages: &[u32], page: u32) -> usize
+    ensures { (16 * result ≤ length pages.now) × Without pages.now (16 * result) page }
+{
+    pages
+        .chunks_exact(16)
+        .take_while(|block| !any_is(block, page))
+        .count()
 }
 
 // The place of a page among a session's, where it is one of them. The pages are numbers of 32 bits and are compared as such.
@@ -136,7 +147,7 @@ pub fn own_place(pages: &[u32], page: u64) -> Option<usize>
     let Ok(sought) = u32::try_from(page) else {
         return None;
     };
-    let from = 16 * block_of(pages, sought)?;
+    let from = 16 * passed_blocks(pages, sought);
     let inside = pages[from..].iter().position(|own| *own == sought)?;
     Some(from + inside)
 }
