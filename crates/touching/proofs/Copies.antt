@@ -53,9 +53,6 @@ pub source_entry : {h : List ℕ} {x : Index} {to from n : ℕ} → Source h x t
     → e.physical + (from + n) ≤ to
 source_entry {h} {x} w {place} l q = rw (q ∙ sym (entry_entries x.form h x.at x.entries place l)) (w.stored place l)
 
-pub source_less : {h : List ℕ} {x : Index} {to from n : ℕ} (m : ℕ) → Source h x to from n → m ≤ n → Source h x to from m
-source_less m w l = record { room = omega (arith, w.room); ahead = w.ahead; rising = w.rising; stored = λ k q. omega (arith, w.stored k q) }
-
 -- ---- Kept bytes, and zeros behind
 
 module _ (o h : List ℕ) (index : List Entry) (a size from n : ℕ) {keep : ℕ} (ek : keep ≡ min n (size - (a + from))) where

@@ -94,22 +94,17 @@ module _ {index : List Entry} {p first m k place count : ℕ} (c : Passing index
     counts = sym (pass j (λ i q h. high i q));
   }
 
-  module _ (there : place < length (logicals index)) where
-    -- or ahead of this one,
-    pub passing-below : get_or (logicals index) place 0 < first + k * p → Passing index p first m k (place + 1) count
-    passing-below l = record { within = c.within; small = c.small; passed = below_more _ place c.passed l; counts = c.counts }
-
-    -- or it is this one's.
-    pub passing-at : 0 < p → k < m → get_or (logicals index) place 0 ≡ first + k * p → Passing index p first m (k + 1) (place + 1) count
-    unfolding missing
-    passing-at pos l e =
-        let more : (k + 1) * p ≡ k * p + p = rw (add-one k) (suc-mul k p) in
-        record {
-          within = omega arith;
-          small = omega (arith, c.small);
-          passed = below_more _ place (λ i q. omega (arith, c.passed i q)) (omega arith);
-          counts = rw (add-one k, has-at (logicals index) place (first + k * p) there e) (omega (arith, c.counts));
-        }
+  -- or it is this one's.
+  pub passing-at : place < length (logicals index) → 0 < p → k < m → get_or (logicals index) place 0 ≡ first + k * p → Passing index p first m (k + 1) (place + 1) count
+  unfolding missing
+  passing-at there pos l e =
+      let more : (k + 1) * p ≡ k * p + p = rw (add-one k) (suc-mul k p) in
+      record {
+        within = omega arith;
+        small = omega (arith, c.small);
+        passed = below_more _ place (λ i q. omega (arith, c.passed i q)) (omega arith);
+        counts = rw (add-one k, has-at (logicals index) place (first + k * p) there e) (omega (arith, c.counts));
+      }
 
 -- ---- The pages and entries
 
@@ -192,11 +187,6 @@ module _ {index : List Entry} {own : List ℕ} {p first m a k touched merged : �
     over = λ q. omega (arith, c.pages, touching_range own p first k m c.within);
     exact = λ q. absurd (omega arith);
   }
-
-  pub counted-end : m ≤ k → Counted index own (pages_from p first m) touched merged
-  counted-end l =
-      let e : k ≡ m = omega (arith, c.within) in
-      record { over = λ q. rw (← e) (omega (arith, c.pages)); exact = λ q. rw (← e) (c.pages, c.entries) }
 
 pub counting-room : {index : List Entry} {own : List ℕ} {p first m a k touched merged : ℕ} → Counting index own p first m a k touched merged → (j : ℕ) → k + j ≤ m → a + j * p ≤ first + m * p
 counting-room {p = p} {k = k} c j l = omega (arith, c.spot, mul-le-mul_right p l, add-mul k j p)

@@ -328,7 +328,7 @@ module _ (o : List ℕ) (s : Setting) (x : Index) (index : List Entry) (offset :
       in-history = rw (slice-part bytes (a - offset) (j * s.form.page), length_part bytes (a - offset) (j * s.form.page) covers) (omega (arith, writing_past all-stored, w.long, add-mul st.n j s.form.page));
     }
 
-    pub noted_long : length (take (st.n + j - st.n) (drop st.n st.pages)) ≡ j
+    noted_long : length (take (st.n + j - st.n) (drop st.n st.pages)) ≡ j
     noted_long = rw slice-part (length_part st.pages st.n j (omega (arith, all-stored.ready.few, w.ready.full)))
 
     -- What is noted takes the place of as many pages.

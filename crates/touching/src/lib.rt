@@ -241,7 +241,7 @@ fn missing_pages(history: &[u8], x: Index, first: usize, m: usize) -> usize
     count + (m - k)
 }
 
-// Counts them for a write of `len` bytes at an offset into a session of n pages, whose index would have `before` entries without
+// Counts them for a write of `len` bytes at an offset into a session of some pages, whose index would have `before` entries without
 // the write. It leaves off once there are over 256 pages.
 pub fn count_pages(
     history: &[u8],

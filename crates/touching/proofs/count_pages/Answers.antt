@@ -10,7 +10,7 @@ use Rattle.rules.specs.View.{has, page_of}
 use Rattle.layout.specs.Paged.{farthest}
 use Rattle.view.proofs.Pages.{range-room}
 use Rattle.touching.specs.Pages.{missing}
-use Rattle.touching.proofs.Counting.{Counting, counting-start, counting_own, counting_run, counting-room, counted_past, counted-end}
+use Rattle.touching.proofs.Counting.{Counting, counting-start, counting_own, counting_run, counting-room, counted_past}
 use Rattle.touching.proofs.count_pages.Goals as goal
 use Rattle.touching.proofs.count_pages.Goals.{After-new_pages-some, At-loop-k, Else-is_some}
 
@@ -69,6 +69,3 @@ loop-k-preserved c = rw c.missing_pages-merged.ensures (run (goal.at.loop-k-pres
 
 pub returns-else-touched : goal.returns-else-touched
 returns-else-touched c = rw (← c.pages_in-m.ensures) (counted_past c.loop-k.invariant (search rules))
-
-pub returns-after-loop-k : goal.returns-after-loop-k
-returns-after-loop-k c = rw (← c.pages_in-m.ensures) (counted-end c.loop-k.invariant c.loop-k-test.false)

@@ -1,10 +1,10 @@
 -- Each turn notes one page more, directly behind those noted so far.
-use mathlib.Core.Path.{◌≡◌, refl, sym, ◌∙◌}
+use mathlib.Core.Path.{refl, ◌∙◌}
 use Prim.Native.Nat.{◌<◌}
 use native.Mathlib.Numerals.{add-one}
 use native.Mathlib.Omega.{arith}
 use lib.ListN.{length}
-use lib.Seq.{take_all, take-suc-set}
+use lib.Seq.{take-suc-set}
 use Rattle.rules.specs.Bytes.{tabulate}
 use Rattle.touching.proofs.note_pages.Goals as goal
 
@@ -17,8 +17,3 @@ unfolding tabulate
 loop-k-preserved c =
     let more : c.loop-k.k < length c.loop-k.pages = omega arith in
     rw add-one (take-suc-set c.loop-k.pages c.loop-k.k _ more ∙ rw c.loop-k.invariant)
-
-pub returns : goal.returns
-returns c =
-    let all : c.loop-k.k ≡ length c.args.pages.now = omega arith in
-    rw (← all) (sym (rw all (take_all _ c.loop-k.pages (omega arith))) ∙ c.loop-k.invariant)

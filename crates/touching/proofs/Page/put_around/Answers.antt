@@ -1,14 +1,9 @@
 -- What the write leaves of the copy stands ahead of its run and behind it.
 use mathlib.Core.Path.{refl, ◌∙◌}
 use native.Mathlib.Omega.{arith}
-use Rattle.touching.proofs.Copies.{source_less, source-behind, page-laid}
+use Rattle.touching.proofs.Copies.{source-behind, page-laid}
 use Rattle.touching.proofs.Touches.{over_run}
 use Rattle.touching.proofs.Page.put_around.Goals as goal
-
-pub put_kept-requires : goal.put_kept-requires
-put_kept-requires c =
-    let v = c.args.self.now.shares in
-    (source_less _ c.requires (omega (arith, c.run-run.ensures.in-page)), omega (arith, v.below, v.short))
 
 pub put_kept-requires-2 : goal.put_kept-requires-2
 put_kept-requires-2 c =

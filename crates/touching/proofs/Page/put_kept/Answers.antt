@@ -1,10 +1,6 @@
 -- The bytes below the size are the page's, and those past it zeros.
-use native.Mathlib.Omega.{arith}
-use Rattle.touching.proofs.Copies.{source_less, copied}
+use Rattle.touching.proofs.Copies.{copied}
 use Rattle.touching.proofs.Page.put_kept.Goals as goal
-
-pub put_parent-requires : goal.put_parent-requires
-put_parent-requires c = (source_less _ c.requires.0 (omega (arith, c.below-keep.ensures)), c.requires.1)
 
 pub returns : goal.returns
 returns c =

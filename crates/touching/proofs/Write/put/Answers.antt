@@ -11,10 +11,9 @@ use Rattle.rules.specs.declared.Entry.{Entry}
 use Rattle.rules.specs.declared.State.{State}
 use Rattle.rules.specs.Layout.{touch_limit, entries_in}
 use Rattle.rules.specs.View.{has, own_pages}
-use Rattle.rules.proofs.Range.{own-missing}
 use Rattle.touching.specs.Pages.{Ready, Shares, AllNew}
 use Rattle.touching.proofs.Copies.{room_new, ready_source}
-use Rattle.touching.proofs.Loop.{Fits, writing_start, writing_one, writing_shares, writing_kept, writing-fresh, writing-room, writing-over, writing_new, writing_fits, noted_long, writing-stored, writing-end}
+use Rattle.touching.proofs.Loop.{Fits, writing_start, writing_one, writing_shares, writing_kept, writing-fresh, writing-room, writing-over, writing_new, writing_fits, writing-stored, writing-end}
 use Rattle.touching.proofs.Write.put.Goals as goal
 use Rattle.touching.proofs.Write.put.Goals.{After-new_pages-some, In_default, In-loop-k, In-Some}
 
@@ -103,13 +102,6 @@ put_run-requires c = (fits (goal.at.put_run-requires c).After-new_pages-some).in
 pub slice_bounds-note_pages-end : goal.slice_bounds-note_pages-end
 slice_bounds-note_pages-end c =
     omega (arith, (fits (goal.at.slice_bounds-note_pages-end c).After-new_pages-some).in-session, c.loop-k.invariant.ready.full)
-
-pub note_pages-requires : goal.note_pages-requires
-note_pages-requires c =
-    let n = c.new_pages-some.ensures in
-    let f = fits (goal.at.note_pages-requires c).After-new_pages-some in
-    rw (noted_long _ _ _ _ _ _ c.loop-k.invariant c.requires.bytes_bound c.covered-whole.ensures n.0 n.1 (new (goal.at.note_pages-requires c).After-new_pages-some))
-    (omega (arith, f.from, f.in_bytes, c.requires.bytes_bound))
 
 pub loop-k-preserved : goal.loop-k-preserved
 loop-k-preserved c =
