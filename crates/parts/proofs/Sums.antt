@@ -1,11 +1,9 @@
--- Checksums that stand beside what they are of: of a part, of a page, and of locations or entries, passed one by one.
+-- The checksums of locations or entries, of which each stands beside what it is of: they are taken one by one.
 use mathlib.Core.Path.{◌≡◌, refl, ap, ◌∙◌}
-use mathlib.Core.Bool.{not}
 use mathlib.Core.List.{List, [], ◌∷◌, ◌++◌}
 use Prim.Native.Nat.{ℕ, zero, suc, ◌+◌, ◌*◌, ◌/◌, ◌%◌, ◌-◌, ◌≤◌, ◌<◌}
 use native.Mathlib.Nat.{zero-add, mod-lt, div-mul-le_self, add-zero, zero-mul, suc-mul}
 use native.Mathlib.Omega.{arith}
-use lib.Dec.{eqb}
 use lib.ListN.{length, take, drop, get_or, length-append, length-take, length-drop}
 use lib.Seq.{take_at, drop_at, take-take, drop-drop}
 use Rattle.std.specs.List.{list_all}
@@ -16,11 +14,8 @@ use Rattle.std.specs.declared.slice.ChunksExact.{ChunksExact}
 use Rattle.std.proofs.lemmas.Iterator.{YieldsList}
 use Rattle.std.proofs.lemmas.Iterator.Splits.{YieldsList-from_shown_while}
 use Rattle.std.proofs.lemmas.Nat.{div-mul-add, div-add-mod'}
-use Rattle.rules.specs.Bytes.{part, number_at}
-use Rattle.rules.specs.Checksum.{checksum}
+use Rattle.rules.specs.Bytes.{part}
 use Rattle.rules.specs.Layout.{sum_stands, sums_stand}
-use Rattle.rules.specs.Rows.{page_sum_wrong}
-use Rattle.rules.specs.declared.Entry.{Entry}
 
 -- The first n parts of a width.
 abbrev pub chunks : ℕ → ℕ → List ℕ → List (List ℕ)
@@ -80,15 +75,3 @@ module _ (w o : ℕ) (long : 16 ≤ w) (inside : o + 4 ≤ w) where
   sums-all h at n room e =
       let many : n * w / w ≡ n = let d = div-mul-add n w 0 (omega arith) in rw add-zero at d in
       rw (e, slice-part, length_part h at (n * w) room, many) (each h at n)
-
--- A stored checksum beside the one worked out.
-pub sum_parts : (h : List ℕ) (at n sum_at : ℕ) {stored sum : ℕ} → stored ≡ number_at 4 h sum_at → sum ≡ checksum (take (at + n - at) (drop at h))
-    → eqb stored sum ≡ sum_stands h at n sum_at
-unfolding sum_stands
-sum_parts h at n sum_at e f = let l : at + n - at ≡ n = omega arith in rw (e, f, l)
-
--- The page of an entry beside the entry's checksum of it.
-pub page-sum : (h : List ℕ) (p : ℕ) (e : Entry) (to : ℕ) {sum : ℕ} → to ≡ e.physical + p → sum ≡ checksum (take (to - e.physical) (drop e.physical h))
-    → not (eqb e.checksum sum) ≡ page_sum_wrong h p e
-unfolding page_sum_wrong
-page-sum h p e to a b = let l : to - e.physical ≡ p = omega arith in rw (b, l)

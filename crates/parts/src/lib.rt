@@ -35,6 +35,7 @@ pub fn put_start(history: &mut [u8], at: usize, form: Form, signature: [u8; 4], 
 // ---- Checksums
 
 // Whether the four bytes at sum_at are the checksum of n bytes from an address.
+#[tactic(auto, unfolding(rules::specs::Layout::sum_stands))]
 pub fn sum_stands(history: &[u8], at: usize, n: usize, sum_at: usize) -> bool
     requires { (at + n ≤ length history.now) × (sum_at + 4 ≤ length history.now) × (length history.now ≤ limit) }
     ensures { result ≡ sum_stands history.now at n sum_at }
@@ -63,6 +64,7 @@ pub fn put_sum(history: &mut [u8], start: usize, end: usize)
 }
 
 // Row 9 of one page: whether its bytes have another checksum than its entry says.
+#[tactic(auto, unfolding(rules::specs::Rows::page_sum_wrong))]
 pub fn page_sum_wrong(history: &[u8], page: u64, e: Entry) -> bool
     requires { (e.physical + page ≤ length history.now) × (length history.now ≤ limit) }
     ensures { result ≡ page_sum_wrong history.now page e }

@@ -201,14 +201,12 @@ fn entries_right(history: &[u8], s: Setting, r: Record) -> bool
         entries: r.entries as usize,
     };
     let mut next: u64 = 0;
-    let mut k: usize = 0;
-    while k < x.entries {
+    for k in 0..x.entries {
         let e = index::entry(history, x, k);
         if !entry_right(s, r, next, e) {
             return false;
         }
         next = e.logical + 1;
-        k += 1;
     }
     true
 }

@@ -1,10 +1,6 @@
 -- What is left to judge is the rule of what is left.
-use Prim.Native.Nat.{◌-◌}
 use Rattle.records.proofs.Entries.{EntriesLeft}
 use Rattle.records.proofs.entries_right.Given as goal
 
 abbrev pub invariant-loop-k : goal.invariant-loop-k
 invariant-loop-k l = EntriesLeft l.s l.r l.history l.x.at l.x.entries l.next l.k
-
-abbrev pub decreases-loop-k : goal.decreases-loop-k
-decreases-loop-k l = l.x.entries - l.k
