@@ -105,35 +105,31 @@ pub record Lanes (bytes : List ℕ) (turns : ℕ) (firsts seconds : List ℕ) : 
   pub first : sum_l firsts ≡ total (low_words bytes)
   pub second : total (running_totals 0 (low_words bytes)) + weighted firsts ≡ 8 * sum_l seconds
 
-module _ (bytes : List ℕ) (turns : ℕ) (firsts seconds : List ℕ) (lanes : Lanes bytes turns firsts seconds) where
-  -- There is no less than what is to be taken off.
-  pub weighted_least : weighted firsts ≤ 8 * sum_l seconds
-  weighted_least = omega (arith, lanes.second)
+module _ (bytes : List ℕ) (turns : ℕ) (firsts seconds : List ℕ) (lanes : Lanes bytes turns firsts seconds) (ws : List ℕ) (words : Each1 (λ w. w < 65536) ws) (within : turns < 256) where
+  pub firsts_room : Each2 (λ a w. Fits w32 (a + w)) firsts ws
+  firsts_room = Each2-of (λ a. a ≤ 65535 * turns) (λ w. w < 65536) (λ a w. Fits w32 (a + w)) (λ a w h k. record { fits = omega arith }) firsts ws lanes.small words
 
-  module _ (ws : List ℕ) (words : Each1 (λ w. w < 65536) ws) (within : turns < 256) where
-    pub firsts_room : Each2 (λ a w. Fits w32 (a + w)) firsts ws
-    firsts_room = Each2-of (λ a. a ≤ 65535 * turns) (λ w. w < 65536) (λ a w. Fits w32 (a + w)) (λ a w h k. record { fits = omega arith }) firsts ws lanes.small words
+  firsts_small : Each1 (λ a. a ≤ 65535 * (turns + 1)) (zip2 (λ a w. a + w) firsts ws)
+  firsts_small = Each1-zip2 (λ a w. a + w) (λ a. a ≤ 65535 * (turns + 1)) firsts ws (Each2-of (λ a. a ≤ 65535 * turns) (λ w. w < 65536) (λ a w. a + w ≤ 65535 * (turns + 1)) (λ a w h k. omega arith) firsts ws lanes.small words)
 
-    firsts_small : Each1 (λ a. a ≤ 65535 * (turns + 1)) (zip2 (λ a w. a + w) firsts ws)
-    firsts_small = Each1-zip2 (λ a w. a + w) (λ a. a ≤ 65535 * (turns + 1)) firsts ws (Each2-of (λ a. a ≤ 65535 * turns) (λ w. w < 65536) (λ a w. a + w ≤ 65535 * (turns + 1)) (λ a w h k. omega arith) firsts ws lanes.small words)
+  pub seconds_room : Each2 (λ b a. Fits w32 (b + a)) seconds (zip2 (λ a w. a + w) firsts ws)
+  seconds_room = Each2-of (λ b. b ≤ 16776960 * turns) (λ a. a ≤ 65535 * (turns + 1)) (λ b a. Fits w32 (b + a)) (λ b a h k. record { fits = omega arith }) seconds (zip2 (λ a w. a + w) firsts ws) lanes.great firsts_small
 
-    pub seconds_room : Each2 (λ b a. Fits w32 (b + a)) seconds (zip2 (λ a w. a + w) firsts ws)
-    seconds_room = Each2-of (λ b. b ≤ 16776960 * turns) (λ a. a ≤ 65535 * (turns + 1)) (λ b a. Fits w32 (b + a)) (λ b a h k. record { fits = omega arith }) seconds (zip2 (λ a w. a + w) firsts ws) lanes.great firsts_small
+  seconds_great : Each1 (λ b. b ≤ 16776960 * (turns + 1)) (zip2 (λ b a. b + a) seconds (zip2 (λ a w. a + w) firsts ws))
+  seconds_great = Each1-zip2 (λ b a. b + a) (λ b. b ≤ 16776960 * (turns + 1)) seconds (zip2 (λ a w. a + w) firsts ws) (Each2-of (λ b. b ≤ 16776960 * turns) (λ a. a ≤ 65535 * (turns + 1)) (λ b a. b + a ≤ 16776960 * (turns + 1)) (λ b a h k. omega arith) seconds (zip2 (λ a w. a + w) firsts ws) lanes.great firsts_small)
 
-    seconds_great : Each1 (λ b. b ≤ 16776960 * (turns + 1)) (zip2 (λ b a. b + a) seconds (zip2 (λ a w. a + w) firsts ws))
-    seconds_great = Each1-zip2 (λ b a. b + a) (λ b. b ≤ 16776960 * (turns + 1)) seconds (zip2 (λ a w. a + w) firsts ws) (Each2-of (λ b. b ≤ 16776960 * turns) (λ a. a ≤ 65535 * (turns + 1)) (λ b a. b + a ≤ 16776960 * (turns + 1)) (λ b a h k. omega arith) seconds (zip2 (λ a w. a + w) firsts ws) lanes.great firsts_small)
-
-    pub lanes_turn : (row next : List ℕ) → length firsts ≡ 8 → length seconds ≡ 8 → length ws ≡ 8 → ws ≡ low_words row → length bytes % 2 ≡ 0 → next ≡ bytes ++ row
-        → Lanes next (turns + 1) (zip2 (λ a w. a + w) firsts ws) (zip2 (λ b a. b + a) seconds (zip2 (λ a w. a + w) firsts ws))
-    lanes_turn row next eight eight_too long are even joined =
-        let sums = zip2 (λ a w. a + w) firsts ws in
-        let fit : length firsts ≡ length ws = eight ∙ sym long in
-        let first : sum_l sums ≡ sum_l firsts + sum_l ws = sum-zip2 firsts ws fit in
-        let low : total (low_words next) ≡ total (low_words bytes) + total ws = rw (joined, are) (low-append bytes row even) in
-        let running : total (running_totals 0 (low_words next)) ≡ total (running_totals 0 (low_words bytes)) + total (running_totals (0 + total (low_words bytes)) ws) = rw (joined, are) (running-append bytes row 0 even) in
-        record {
-          small = firsts_small;
-          great = seconds_great;
-          first = omega (arith, first, low, lanes.first, total_is ws);
-          second = omega (arith, first, running, running_is (0 + total (low_words bytes)) ws long, lanes.first, lanes.second, total_is ws, weighted_by firsts ws places fit, sum-zip2 seconds sums (eight_too ∙ sym (length-zip2 (λ a w. a + w) firsts ws fit ∙ eight)));
-        }
+  -- A row more, with a word for each lane.
+  pub lanes_turn : (row next : List ℕ) → length firsts ≡ 8 → length seconds ≡ 8 → length ws ≡ 8 → ws ≡ low_words row → length bytes % 2 ≡ 0 → next ≡ bytes ++ row
+      → Lanes next (turns + 1) (zip2 (λ a w. a + w) firsts ws) (zip2 (λ b a. b + a) seconds (zip2 (λ a w. a + w) firsts ws))
+  lanes_turn row next eight eight_too long are even joined =
+      let sums = zip2 (λ a w. a + w) firsts ws in
+      let fit : length firsts ≡ length ws = eight ∙ sym long in
+      let first : sum_l sums ≡ sum_l firsts + sum_l ws = sum-zip2 firsts ws fit in
+      let low : total (low_words next) ≡ total (low_words bytes) + total ws = rw (joined, are) (low-append bytes row even) in
+      let running : total (running_totals 0 (low_words next)) ≡ total (running_totals 0 (low_words bytes)) + total (running_totals (0 + total (low_words bytes)) ws) = rw (joined, are) (running-append bytes row 0 even) in
+      record {
+        small = firsts_small;
+        great = seconds_great;
+        first = omega (arith, first, low, lanes.first, total_is ws);
+        second = omega (arith, first, running, running_is (0 + total (low_words bytes)) ws long, lanes.first, lanes.second, total_is ws, weighted_by firsts ws places fit, sum-zip2 seconds sums (eight_too ∙ sym (length-zip2 (λ a w. a + w) firsts ws fit ∙ eight)));
+      }

@@ -27,9 +27,6 @@ running-append (x ∷ y ∷ xs) ys f h =
     let e : f + (x + y * 256 + total (low_words xs)) ≡ f + (x + y * 256) + total (low_words xs) = omega arith in
     rw e (omega (arith, running-append xs ys (f + (x + y * 256)) (omega arith)))
 
-pub after_none : (f g : ℕ) → After [] f g f g
-after_none f g = record { first_same = omega arith; second_same = omega arith }
-
 -- One run behind another.
 pub after_both : (xs ys : List ℕ) (f g a b x y : ℕ) → length xs % 2 ≡ 0 → After xs f g a b → After ys a b x y → After (xs ++ ys) f g x y
 after_both xs ys f g a b x y even before behind = record {

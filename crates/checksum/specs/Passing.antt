@@ -17,14 +17,7 @@ places = 0 ∷ 1 ∷ 2 ∷ 3 ∷ 4 ∷ 5 ∷ 6 ∷ 7 ∷ []
 abbrev pub weighted : List ℕ → ℕ
 weighted lanes = sum_l (products lanes places)
 
--- The two exact totals over all the bytes, from sums that stood before them.
-abbrev pub first_total : ℕ → List ℕ → ℕ
-first_total first bytes = first + total (low_words bytes)
-
-abbrev pub second_total : ℕ → ℕ → List ℕ → ℕ
-second_total first second bytes = second + total (running_totals first (low_words bytes))
-
 -- From the totals first and second, the bytes lead to the totals a and b.
 pub record After (bytes : List ℕ) (first second a b : ℕ) : Type 0 where
-  pub first_same : a ≡ first_total first bytes
-  pub second_same : b ≡ second_total first second bytes
+  pub first_same : a ≡ first + total (low_words bytes)
+  pub second_same : b ≡ second + total (running_totals first (low_words bytes))

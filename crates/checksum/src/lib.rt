@@ -182,7 +182,7 @@ pub fn fletcher32_sixteen(bytes: &[u8], at: usize) -> u64
     left.then(right, 4).folded().checksum()
 }
 
-// The checksum of at most 16,777,216 bytes.
+// The checksum of at most 16,777,216 bytes, for callers that know of no more.
 pub fn fletcher32(bytes: &[u8]) -> u64
     requires { length bytes.now ≤ 16777216 }
     ensures { (result ≡ checksum bytes.now) × (result < 2 ^ 32) }
@@ -191,7 +191,7 @@ pub fn fletcher32(bytes: &[u8]) -> u64
 }
 
 // The checksum of any number of bytes. It goes part by part: between two parts the totals are folded, which keeps their remainders and keeps
-// zero zero.
+// zero zero. Sixteen bytes, as locations and entries have, go straight through.
 pub fn fletcher32_any(bytes: &[u8]) -> u64
     ensures { (result ≡ checksum bytes.now) × (result < 2 ^ 32) }
 {
