@@ -1,88 +1,121 @@
--- The exact totals, passed word by word, and the bytes put in order at the end.
+-- The exact totals, passed run by run, and the bytes put in order at the end.
 use mathlib.Core.Path.{◌≡◌, refl, sym, ap, ◌∙◌}
 use mathlib.Core.List.{List, [], ◌∷◌, ◌++◌}
-use Prim.Native.Nat.{ℕ, zero, suc, ◌+◌, ◌*◌, ◌-◌, ◌/◌, ◌%◌, ◌^◌, ◌≤◌, ◌<◌}
-use native.Mathlib.Numerals.{add-one}
-use native.Mathlib.Nat.{zero-add, add-zero, add_assoc, suc-mul, mul-le-mul_left, mod-eq_of_lt, add-mul-mod_self_left}
+use Prim.Native.Nat.{ℕ, zero, suc, ◌+◌, ◌*◌, ◌/◌, ◌%◌, ◌^◌, ◌≤◌, ◌<◌}
+use native.Mathlib.Nat.{zero-add, add-zero, add_comm, mul-zero, mul-suc, add_assoc, suc-mul, add-mul-mod_self_left}
 use native.Mathlib.Omega.{arith}
-use lib.Bits.{bit_or, or_shifted}
-use lib.ListN.{length, drop, get_or, length-drop, take-append-drop, drop_of_length-le}
-use lib.Seq.{take_all, drop-cons, drop-drop}
+use lib.ListN.{length, take, drop, get_or, length-take, length-drop, take-append-drop}
+use lib.Seq.{take-add, drop-drop}
+use Rattle.std.specs.Simd.{first_chunks}
 use Rattle.rules.specs.Bytes.{part}
 use Rattle.rules.specs.Checksum.{words, total, running_totals, folded, checksum}
-use Rattle.rules.proofs.Bytes.{length_part, byte-part}
 use Rattle.rules.proofs.Checksum.{checksum_less}
-use Rattle.checksum.specs.Passing.{low_words, low_word_at, first_total, second_total, ordered, Four, Sofar, Sums, Whole}
+use Rattle.checksum.specs.Passing.{low_words, After}
 
--- ---- one step
+-- ---- the totals of two runs
 
-two_bytes : (s : List ℕ) (i : ℕ) → i + 1 < length s → drop i s ≡ get_or s i 0 ∷ get_or s (i + 1) 0 ∷ drop (i + 2) s
-two_bytes s i h = drop-cons s i 0 (omega arith) ∙ rw (← add-one i, drop-cons s (i + 1) 0 h, ← add-one (i + 1), add_assoc i 1 1)
+pub low-append : (xs ys : List ℕ) → length xs % 2 ≡ 0 → total (low_words (xs ++ ys)) ≡ total (low_words xs) + total (low_words ys)
+low-append [] ys h = omega arith
+low-append (x ∷ []) ys h = absurd (omega arith)
+low-append (x ∷ y ∷ xs) ys h = omega (arith, low-append xs ys (omega arith))
 
-part_rest : (s : List ℕ) (i : ℕ) → part s i (length s - i) ≡ drop i s
-part_rest s i = take_all (length s - i) (drop i s) (rw length-drop (omega arith))
+pub running-append : (xs ys : List ℕ) (f : ℕ) → length xs % 2 ≡ 0
+    → total (running_totals f (low_words (xs ++ ys))) ≡ total (running_totals f (low_words xs)) + total (running_totals (f + total (low_words xs)) (low_words ys))
+running-append [] ys f h = rw add-zero (omega arith)
+running-append (x ∷ []) ys f h = absurd (omega arith)
+running-append (x ∷ y ∷ xs) ys f h =
+    let e : f + (x + y * 256 + total (low_words xs)) ≡ f + (x + y * 256) + total (low_words xs) = omega arith in
+    rw e (omega (arith, running-append xs ys (f + (x + y * 256)) (omega arith)))
 
-module _ (s : List ℕ) (f g : ℕ) where
-  -- One word more.
-  pub word_more : (i a b w : ℕ) → Sofar s f g i a b → i + 1 < length s → w ≡ low_word_at s i → Sofar s f g (i + 2) (a + w) (b + (a + w))
-  word_more i a b w sofar h e =
-      rw e
-      (record {
-        first-same = omega (arith, rw (two_bytes s i h) at sofar.first-same);
-        second-same = omega (arith, rw (two_bytes s i h) at sofar.second-same);
-      })
+-- One run behind another.
+pub after_both : (xs ys : List ℕ) (f g a b x y : ℕ) → length xs % 2 ≡ 0 → After xs f g a b → After ys a b x y → After (xs ++ ys) f g x y
+after_both xs ys f g a b x y even before behind = record {
+  first_same = omega (arith, before.first_same, behind.first_same, low-append xs ys even);
+  second_same = omega (arith, before.second_same, rw before.first_same at behind.second_same, running-append xs ys f even);
+}
 
-  -- Four words more.
-  pub four_more : (i a b w0 w1 w2 w3 : ℕ) → Sofar s f g i a b → i + 7 < length s
-      → w0 ≡ low_word_at s i → w1 ≡ low_word_at s (i + 2) → w2 ≡ low_word_at s (i + 4) → w3 ≡ low_word_at s (i + 6)
-      → Sofar s f g (i + 8) (a + w0 + w1 + w2 + w3) (b + (a + w0) + (a + w0 + w1) + (a + w0 + w1 + w2) + (a + w0 + w1 + w2 + w3))
-  four_more i a b w0 w1 w2 w3 sofar h e0 e1 e2 e3 =
-      let f1 = word_more i a b w0 sofar (omega arith) e0 in
-      let f2 = word_more (i + 2) _ _ w1 f1 (omega arith) e1 in
-      let f3 = word_more (i + 4) _ _ w2 (rw (add_assoc i 2 2) at f2) (omega arith) e2 in
-      let f4 = word_more (i + 6) _ _ w3 (rw (add_assoc i 4 2) at f3) (omega arith) e3 in
-      rw (add_assoc i 6 2) at f4
+pub even_front : (s : List ℕ) (at : ℕ) → at ≤ length s → at % 2 ≡ 0 → length (take at s) % 2 ≡ 0
+even_front s at within even = let e : length (take at s) ≡ at = rw length-take (omega arith) in rw e even
 
-  pub four_passed : (i a b x y : ℕ) → Sofar s f g i a b → i + 7 < length s → Four s i a b x y → Sofar s f g (i + 8) x y
-  four_passed i a b x y sofar h four =
-      let w0 = low_word_at s i in
-      let w1 = low_word_at s (i + 2) in
-      let w2 = low_word_at s (i + 4) in
-      let w3 = low_word_at s (i + 6) in
-      let more = four_more i a b w0 w1 w2 w3 sofar h refl refl refl refl in
-      let e : b + (a + w0) + (a + w0 + w1) + (a + w0 + w1 + w2) + (a + w0 + w1 + w2 + w3) ≡ y = omega arith in
-      rw (e, ← four.first_more) at more
+-- What is left behind an even number of bytes.
+pub after_rest : (s : List ℕ) (at f g a b x y : ℕ) → at ≤ length s → at % 2 ≡ 0 → After (take at s) f g a b → After (drop at s) a b x y → After s f g x y
+after_rest s at f g a b x y within even before rest = rw (take-append-drop at s) at (after_both (take at s) (drop at s) f g a b x y (even_front s at within even) before rest)
 
-  -- An odd last byte.
-  pub byte_more : (i a b w : ℕ) → Sofar s f g i a b → i + 1 ≡ length s → w ≡ get_or s i 0 → Sofar s f g (i + 1) (a + w) (b + (a + w))
-  byte_more i a b w sofar h e =
-      let d : drop i s ≡ get_or s i 0 ∷ [] = drop-cons s i 0 (omega arith) ∙ rw (drop_of_length-le s {i = suc i} (omega arith)) in
-      let z : drop (i + 1) s ≡ [] = drop_of_length-le s {i = i + 1} (omega arith) in
-      rw e
-      (record {
-        first-same = rw z (omega (arith, rw d at sofar.first-same));
-        second-same = rw z (omega (arith, rw d at sofar.second-same));
-      })
+-- ---- runs of n
 
-  -- Once nothing is left, the sums are the totals.
-  pub at-end : (i a b : ℕ) → Sofar s f g i a b → length s ≤ i → (first_total f s ≡ a) × (second_total f g s ≡ b)
-  at-end i a b sofar h =
-      let e : drop i s ≡ [] = drop_of_length-le s h in
-      (omega (arith, rw e at sofar.first-same), omega (arith, rw e at sofar.second-same))
+chunk_at : (n k i : ℕ) (s : List ℕ) → i < k → get_or (first_chunks n k s) i [] ≡ take n (drop (n * i) s)
+chunk_at n zero i s h = absurd (omega arith)
+chunk_at n (suc k) zero s h = rw (mul-zero n)
+chunk_at n (suc k) (suc i) s h = chunk_at n k i (drop n s) (omega arith) ∙ rw (drop-drop, mul-suc n i, add_comm n (n * i))
 
-  -- Or what is left is summed in one.
-  pub ordered_rest : (i a b r : ℕ) → Sofar s f g i a b → r ≡ ordered (first_total a (part s i (length s - i))) (second_total a b (part s i (length s - i)))
-      → r ≡ ordered (first_total f s) (second_total f g s)
-  ordered_rest i a b r sofar e = rw (part_rest s i) at e ∙ rw (sofar.first-same, sofar.second-same)
+module _ (n : ℕ) (s : List ℕ) (runs : List (List ℕ)) (i next : ℕ) (cut : runs ≡ first_chunks n (length s / n) s) (turn : i < length s / n) (more : next ≡ n * i + n) (room : next ≤ length s) where
+  run_is : get_or runs i [] ≡ take n (drop (n * i) s)
+  run_is = rw cut (chunk_at n (length s / n) i s turn)
 
-  pub ordered_end : (i a b r : ℕ) → Sofar s f g i a b → length s ≤ i → r ≡ ordered a b → r ≡ ordered (first_total f s) (second_total f g s)
-  ordered_end i a b r sofar h e = let t = at-end i a b sofar h in e ∙ rw (t.0, t.1)
+  pub run_length : length (get_or runs i []) ≡ n
+  run_length = rw (run_is, length-take, length-drop) (omega arith)
+
+  pub run_joined : take next s ≡ take (n * i) s ++ get_or runs i []
+  run_joined = rw (more, take-add (n * i) n s, run_is)
+
+  -- A run more.
+  pub run_more : (f g a b x y : ℕ) → n * i % 2 ≡ 0 → After (take (n * i) s) f g a b → After (get_or runs i []) a b x y → After (take next s) f g x y
+  run_more f g a b x y even before run = rw run_joined (after_both (take (n * i) s) (get_or runs i []) f g a b x y (even_front s (n * i) (omega arith) even) before run)
+
+-- ---- words
+
+word_run : (run : List ℕ) (a b : ℕ) → length run ≡ 2 → After run a b (a + (get_or run 0 0 + get_or run 1 0 * 256)) (b + (a + (get_or run 0 0 + get_or run 1 0 * 256)))
+word_run [] a b h = absurd (omega arith)
+word_run (x ∷ []) a b h = absurd (omega arith)
+word_run (x ∷ y ∷ []) a b h = record { first_same = omega arith; second_same = omega arith }
+word_run (x ∷ y ∷ z ∷ s) a b h = absurd (omega arith)
+
+byte_run : (run : List ℕ) (a b : ℕ) → length run ≡ 1 → After run a b (a + get_or run 0 0) (b + (a + get_or run 0 0))
+byte_run [] a b h = absurd (omega arith)
+byte_run (x ∷ []) a b h = record { first_same = omega arith; second_same = omega arith }
+byte_run (x ∷ y ∷ s) a b h = absurd (omega arith)
+
+-- A word more, its low byte first.
+pub word_more : (s : List ℕ) (ws : List (List ℕ)) (i f g a b w x y : ℕ) → ws ≡ first_chunks 2 (length s / 2) s → i < length s / 2
+    → After (take (2 * i) s) f g a b → w ≡ get_or (get_or ws i []) 0 0 + get_or (get_or ws i []) 1 0 * 256 → (x ≡ a + w) × (y ≡ b + (a + w)) → After (take (2 * (i + 1)) s) f g x y
+word_more s ws i f g a b w x y cut turn before e d =
+    let long = run_length 2 s ws i (2 * (i + 1)) cut turn (omega arith) (omega arith) in
+    run_more 2 s ws i (2 * (i + 1)) cut turn (omega arith) (omega arith) f g a b x y (omega arith) before (rw (d.0, d.1, e) (word_run _ a b long))
+
+-- A last byte.
+pub byte_more : (s rest : List ℕ) (i f g a b w x y : ℕ) → rest ≡ drop (length s / 2 * 2) s → i ≡ length s / 2 → length rest ≡ 1
+    → After (take (2 * i) s) f g a b → w ≡ get_or rest 0 0 → (x ≡ a + w) × (y ≡ b + (a + w)) → After s f g x y
+byte_more s rest i f g a b w x y cut turns long before e d =
+    let same : length s / 2 * 2 ≡ 2 * i = omega arith in
+    after_rest s (2 * i) f g a b x y (omega arith) (omega arith) before (rw (← same, ← cut, d.0, d.1, e) (byte_run rest a b long))
+
+-- ---- rows from sums that stood before them
+
+-- A first sum counts once in each running total.
+running_from : (s : List ℕ) (words f g : ℕ) → 2 * words ≡ length s
+    → total (running_totals (f + g) (low_words s)) ≡ words * f + total (running_totals g (low_words s))
+running_from [] zero f g h = omega arith
+running_from [] (suc k) f g h = absurd (omega arith)
+running_from (x ∷ []) k f g h = absurd (omega arith)
+running_from (x ∷ y ∷ s) zero f g h = absurd (omega arith)
+running_from (x ∷ y ∷ s) (suc k) f g h =
+    rw (suc-mul k f, add_assoc f g (x + y * 256)) (omega (arith, running_from s k f (g + (x + y * 256)) (omega arith)))
+
+pub after_from : (s : List ℕ) (words f g x y : ℕ) → 2 * words ≡ length s → After s 0 0 x y → After s f g (f + x) (g + words * f + y)
+after_from s words f g x y half after = record {
+  first_same = omega (arith, after.first_same);
+  second_same = omega (arith, after.second_same, rw add-zero at (running_from s words f 0 half));
+}
+
+-- Whole rows from nothing on, and what is left behind them.
+pub part_after : (s whole rest : List ℕ) (f g x y p q a b : ℕ) → whole ≡ take (length s / 16 * 16) s → rest ≡ drop (length s / 16 * 16) s → After whole 0 0 x y
+    → (p ≡ f + x) × (q ≡ g + length whole / 2 * f + y) → After rest p q a b → After s f g a b
+part_after s whole rest f g x y p q a b front back rows sums few =
+    let even = even_front s (length s / 16 * 16) (omega arith) (omega arith) in
+    let half : 2 * (length whole / 2) ≡ length whole = omega (arith, rw (← front) at even) in
+    after_rest s (length s / 16 * 16) f g (f + x) (g + length whole / 2 * f + y) a b (omega arith) (omega arith) (rw (← front) (after_from whole (length whole / 2) f g x y half rows)) (rw (← back, ← sums.0, ← sums.1) few)
 
 -- ---- folding
-
-pub folded_positive : (x : ℕ) → (x ≡ 0 → ⊥) → (x - 1) % 65535 + 1 ≡ folded x
-folded_positive zero h = absurd (h refl)
-folded_positive (suc x) h = let e : suc x - 1 ≡ x = omega arith in rw e
 
 -- The same remainder.
 folded_more : (x k : ℕ) → 0 < x → folded (x + 65535 * k) ≡ folded x
@@ -91,23 +124,56 @@ folded_more (suc x) k h =
     let e : suc x + 65535 * k ≡ suc (x + 65535 * k) = omega arith in
     rw (e, add-mul-mod_self_left x 65535 k)
 
-folded-small : (x : ℕ) → 0 < x → x < 65536 → x ≡ folded x
-folded-small zero h k = absurd (omega arith)
-folded-small (suc x) h k = omega arith
+folded_add : (x k : ℕ) → folded (folded x + k) ≡ folded (x + k)
+folded_add zero k = refl
+folded_add (suc x) k =
+    let e : x % 65535 + 1 + k + 65535 * (x / 65535) ≡ suc x + k = omega arith in
+    sym (folded_more (x % 65535 + 1 + k) (x / 65535) (omega arith)) ∙ rw e
 
--- Times 256 the two bytes of a sum change places.
-pub swapped : (x : ℕ) → x < 65536 → x % 256 * 256 + x / 256 ≡ folded (256 * x)
-swapped zero h = refl
-swapped (suc x) h =
-    let y = suc x % 256 * 256 + suc x / 256 in
-    let e : y + 65535 * (suc x / 256) ≡ 256 * suc x = omega arith in
-    folded-small y (omega arith) (omega arith) ∙ sym (folded_more y (suc x / 256) (omega arith)) ∙ ap folded e
+-- x is y, and 65,535 some times over.
+record Shifted (x y : ℕ) : Type 0 where
+  by : ℕ
+  equal : x ≡ y + 65535 * by
 
--- A shift by sixteen bits and an `or` join two numbers of sixteen bits.
-pub joined : (first second : ℕ) → first < 65536 → second < 65536 → bit_or (second * 65536 % 2 ^ 64) first ≡ second * 65536 + first
-joined first second hf hs =
-    let e : second * 65536 < 2 ^ 64 = omega arith in
-    rw (mod-eq_of_lt e) (or_shifted second 16 first hf)
+shifted : (f q : ℕ) (ws : List ℕ) → Shifted (total (running_totals (f + 65535 * q) ws)) (total (running_totals f ws))
+shifted f q [] = record { by = 0; equal = omega arith }
+shifted f q (w ∷ ws) =
+    let e : f + 65535 * q + w ≡ f + w + 65535 * q = omega arith in
+    let t = shifted (f + w) q ws in
+    record { by = q + t.by; equal = rw e (omega arith) }
+
+folded_running : (x b : ℕ) (ws : List ℕ) → folded (b + total (running_totals (folded x) ws)) ≡ folded (b + total (running_totals x ws))
+folded_running zero b ws = refl
+folded_running (suc x) b [] = refl
+folded_running (suc x) b (w ∷ ws) =
+    let e : suc x ≡ x % 65535 + 1 + 65535 * (x / 65535) = omega arith in
+    let t = shifted (x % 65535 + 1) (x / 65535) (w ∷ ws) in
+    let d : b + total (running_totals (x % 65535 + 1) (w ∷ ws)) + 65535 * t.by ≡ b + total (running_totals (suc x) (w ∷ ws)) = rw e (omega (arith, t.equal)) in
+    sym (folded_more (b + total (running_totals (x % 65535 + 1) (w ∷ ws))) t.by (omega arith)) ∙ ap folded d
+
+-- The sums that the bytes lead to.
+pub record Folded (bytes : List ℕ) (first second : ℕ) : Type 0 where
+  pub first_same : first ≡ folded (total (low_words bytes))
+  pub second_same : second ≡ folded (total (running_totals 0 (low_words bytes)))
+
+pub folded_none : Folded [] 0 0
+folded_none = record { first_same = refl; second_same = refl }
+
+-- More bytes, from the sums on: what was folded before leaves the same remainders.
+pub folded_both : (xs ys : List ℕ) (a b x y u v : ℕ) → length xs % 2 ≡ 0 → Folded xs a b → After ys a b x y → u ≡ folded x → v ≡ folded y → Folded (xs ++ ys) u v
+folded_both xs ys a b x y u v even before behind eu ev =
+    let f = total (low_words xs) in
+    let g = total (running_totals 0 (low_words xs)) in
+    let rest = total (running_totals (folded f) (low_words ys)) in
+    record {
+      first_same = eu ∙ rw (behind.first_same, before.first_same, low-append xs ys even) (folded_add f (total (low_words ys)));
+      second_same = ev ∙ rw (behind.second_same, before.first_same, before.second_same, running-append xs ys 0 even) (folded_add g rest ∙ folded_running f g (low_words ys) ∙ rw (zero-add f));
+    }
+
+pub folded_turn : (s : List ℕ) (runs : List (List ℕ)) (i a b x y u v : ℕ) → runs ≡ first_chunks 4096 (length s / 4096) s → i < length s / 4096
+    → Folded (take (4096 * i) s) a b → After (get_or runs i []) a b x y → (u ≡ folded x) × (v ≡ folded y) → Folded (take (4096 * (i + 1)) s) u v
+folded_turn s runs i a b x y u v cut turn before run e =
+    rw (run_joined 4096 s runs i (4096 * (i + 1)) cut turn (omega arith) (omega arith)) (folded_both (take (4096 * i) s) (get_or runs i []) a b x y u v (even_front s (4096 * i) (omega arith) (omega arith)) before run e.0 e.1)
 
 -- ---- the bytes put in order
 
@@ -137,156 +203,26 @@ turned x (suc y) t =
     let d : 256 * (y % 65535 + 1) + 65535 * (256 * (y / 65535)) ≡ x + 65535 * t.by = omega arith in
     sym (folded_more (256 * (y % 65535 + 1)) (256 * (y / 65535)) (omega arith)) ∙ rw d (folded_more x t.by (omega arith))
 
-in_order : (s : List ℕ) → ordered (first_total 0 s) (second_total 0 0 s) ≡ checksum s
+pub answer : (s : List ℕ) (a b r : ℕ) → Folded s a b → r ≡ folded (256 * b) * 65536 + folded (256 * a) → (r ≡ checksum s) × (r < 2 ^ 32)
 unfolding checksum
-in_order s =
+answer s a b r sums e =
     let none : Turned 0 0 = record { by = 0; few = omega arith; equal = omega arith } in
-    rw (zero-add (total (low_words s)), zero-add (total (running_totals 0 (low_words s))), turned _ _ (turned-words s), turned _ _ (turned_totals s 0 0 none))
+    let same : r ≡ checksum s = e ∙ rw (sums.first_same, sums.second_same, turned _ _ (turned-words s), turned _ _ (turned_totals s 0 0 none)) in
+    (same, omega (arith, checksum_less s))
 
-pub answer : (s : List ℕ) (r : ℕ) → r ≡ ordered (first_total 0 s) (second_total 0 0 s) → (r ≡ checksum s) × (r < 2 ^ 32)
-answer s r e = let k : r ≡ checksum s = e ∙ in_order s in (k, omega (arith, checksum_less s))
+pub sixteen_answer : (s : List ℕ) (at m n f g x y a b u v r : ℕ) → at + 16 ≤ length s → m ≡ 8 → n ≡ 8 → After (take m (drop at s)) 0 0 f g → After (take n (drop (at + 8) s)) 0 0 x y
+    → (a ≡ f + x) × (b ≡ g + 4 * f + y) → (u ≡ folded a) × (v ≡ folded b) → r ≡ folded (256 * v) * 65536 + folded (256 * u) → (r ≡ checksum (part s at 16)) × (r < 2 ^ 32)
+sixteen_answer s at m n f g x y a b u v r room em en left right sums e d =
+    let long : length (take 8 (drop (at + 8) s)) ≡ 8 = rw (length-take, length-drop) (omega arith) in
+    let even : length (take 8 (drop at s)) % 2 ≡ 0 = rw (length-take, length-drop) (omega arith) in
+    let behind = after_from (take 8 (drop (at + 8) s)) 4 f g x y (omega (arith, long)) (rw en at right) in
+    let both = after_both (take 8 (drop at s)) (take 8 (drop (at + 8) s)) 0 0 f g (f + x) (g + 4 * f + y) even (rw em at left) behind in
+    let whole : take 8 (drop at s) ++ take 8 (drop (at + 8) s) ≡ part s at 16 = rw (← drop-drop) (sym (take-add 8 8 (drop at s))) in
+    answer (part s at 16) u v r (folded_both [] (part s at 16) 0 0 a b u v refl folded_none (rw (← whole, sums.0, sums.1) both) e.0 e.1) d
 
--- ---- sixteen bytes
-
-module _ (s : List ℕ) (at : ℕ) where
-  word_in-part : (k : ℕ) → k + 1 < 16 → low_word_at s (at + k) ≡ low_word_at (part s at 16) k
-  word_in-part k h = rw (byte-part s at 16 k (omega arith), byte-part s at 16 (k + 1) h, add_assoc at k 1)
-
-  four_in-part : (k f g a b : ℕ) → k + 7 < 16 → Four s (at + k) f g a b → Four (part s at 16) k f g a b
-  four_in-part k f g a b h four =
-      let w0 = word_in-part k (omega arith) in
-      let w2 = word_in-part (k + 2) (omega arith) in
-      let w4 = word_in-part (k + 4) (omega arith) in
-      let w6 = word_in-part (k + 6) (omega arith) in
-      record {
-        first_more = rw (← w0, ← w2, ← w4, ← w6, ← add_assoc at k 2, ← add_assoc at k 4, ← add_assoc at k 6) four.first_more;
-        second_more = rw (← w2, ← w4, ← w6, ← add_assoc at k 2, ← add_assoc at k 4, ← add_assoc at k 6) four.second_more;
-        small = four.small;
-      }
-
-  pub sixteen_answer : (a b x y r : ℕ) → at + 16 ≤ length s → Four s at 0 0 a b → Four s (at + 8) a b x y → r ≡ ordered x y
-      → (r ≡ checksum (part s at 16)) × (r < 2 ^ 32)
-  sixteen_answer a b x y r h half all e =
-      let bytes = part s at 16 in
-      let long : length bytes ≡ 16 = length_part s at 16 h in
-      let none : Sofar bytes 0 0 0 0 0 = record { first-same = refl; second-same = refl } in
-      let eight = four_passed bytes 0 0 0 0 0 a b none (omega arith) (four_in-part 0 0 0 a b (omega arith) (rw add-zero half)) in
-      let sixteen = four_passed bytes 0 0 8 a b x y eight (omega arith) (four_in-part 8 a b x y (omega arith) all) in
-      answer bytes r (ordered_end bytes 0 0 16 x y r sixteen (omega arith) e)
-
-pub whole_sixteen : (s : List ℕ) (r : ℕ) → length s ≡ 16 → (r ≡ checksum (part s 0 16)) × (r < 2 ^ 32) → (r ≡ checksum s) × (r < 2 ^ 32)
-whole_sixteen s r h e = (e.0 ∙ ap checksum (take_all 16 s (omega arith)), e.1)
-
--- ---- block by block
-
-folded_add : (x k : ℕ) → folded (folded x + k) ≡ folded (x + k)
-folded_add zero k = refl
-folded_add (suc x) k =
-    let e : x % 65535 + 1 + k + 65535 * (x / 65535) ≡ suc x + k = omega arith in
-    sym (folded_more (x % 65535 + 1 + k) (x / 65535) (omega arith)) ∙ rw e
-
--- x is y, and 65,535 some times over.
-record Shifted (x y : ℕ) : Type 0 where
-  by : ℕ
-  equal : x ≡ y + 65535 * by
-
-shifted : (f q : ℕ) (ws : List ℕ) → Shifted (total (running_totals (f + 65535 * q) ws)) (total (running_totals f ws))
-shifted f q [] = record { by = 0; equal = omega arith }
-shifted f q (w ∷ ws) =
-    let e : f + 65535 * q + w ≡ f + w + 65535 * q = omega arith in
-    let t = shifted (f + w) q ws in
-    record { by = q + t.by; equal = rw e (omega arith) }
-
-folded_running : (x b : ℕ) (ws : List ℕ) → folded (b + total (running_totals (folded x) ws)) ≡ folded (b + total (running_totals x ws))
-folded_running zero b ws = refl
-folded_running (suc x) b [] = refl
-folded_running (suc x) b (w ∷ ws) =
-    let e : suc x ≡ x % 65535 + 1 + 65535 * (x / 65535) = omega arith in
-    let t = shifted (x % 65535 + 1) (x / 65535) (w ∷ ws) in
-    let d : b + total (running_totals (x % 65535 + 1) (w ∷ ws)) + 65535 * t.by ≡ b + total (running_totals (suc x) (w ∷ ws)) = rw e (omega (arith, t.equal)) in
-    sym (folded_more (b + total (running_totals (x % 65535 + 1) (w ∷ ws))) t.by (omega arith)) ∙ ap folded d
-
-low-append : (xs ys : List ℕ) → length xs % 2 ≡ 0 → total (low_words (xs ++ ys)) ≡ total (low_words xs) + total (low_words ys)
-low-append [] ys h = omega arith
-low-append (x ∷ []) ys h = absurd (omega arith)
-low-append (x ∷ y ∷ xs) ys h = omega (arith, low-append xs ys (omega arith))
-
-running-append : (xs ys : List ℕ) (f : ℕ) → length xs % 2 ≡ 0
-    → total (running_totals f (low_words (xs ++ ys))) ≡ total (running_totals f (low_words xs)) + total (running_totals (f + total (low_words xs)) (low_words ys))
-running-append [] ys f h = rw add-zero (omega arith)
-running-append (x ∷ []) ys f h = absurd (omega arith)
-running-append (x ∷ y ∷ xs) ys f h =
-    let e : f + (x + y * 256 + total (low_words xs)) ≡ f + (x + y * 256) + total (low_words xs) = omega arith in
-    rw e (omega (arith, running-append xs ys (f + (x + y * 256)) (omega arith)))
-
--- A first sum counts once in each running total.
-running_from : (s : List ℕ) (words f g : ℕ) → 2 * words ≡ length s
-    → total (running_totals (f + g) (low_words s)) ≡ words * f + total (running_totals g (low_words s))
-running_from [] zero f g h = omega arith
-running_from [] (suc k) f g h = absurd (omega arith)
-running_from (x ∷ []) k f g h = absurd (omega arith)
-running_from (x ∷ y ∷ s) zero f g h = absurd (omega arith)
-running_from (x ∷ y ∷ s) (suc k) f g h =
-    rw (suc-mul k f, add_assoc f g (x + y * 256)) (omega (arith, running_from s k f (g + (x + y * 256)) (omega arith)))
-
-cut : (s : List ℕ) (at end : ℕ) → at ≤ end → drop at s ≡ part s at (end - at) ++ drop end s
-cut s at end low =
-    let e : at + (end - at) ≡ end = omega arith in
-    sym (take-append-drop (end - at) (drop at s)) ∙ rw (drop-drop, e)
-
-pub halves : (at long : ℕ) → long % 16 ≡ 0 → 2 * (long / 2) ≡ at + long - at
-halves at long h = omega arith
-
--- Rows more.
-module _ (s : List ℕ) (f g at end a b words x y : ℕ) (low : at ≤ end) (high : end ≤ length s) (even : 2 * words ≡ end - at) (whole : Whole (part s at (end - at)) x y) where
-  rows_more : Sofar s f g at a b → Sofar s f g end (a + x) (b + (words * a + y))
-  rows_more sofar =
-      let block = part s at (end - at) in
-      let rest = drop end s in
-      let long : length block ≡ end - at = length_part s at (end - at) (omega arith) in
-      let parity : length block % 2 ≡ 0 = omega arith in
-      let d = cut s at end low in
-      let from : total (running_totals a (low_words block)) ≡ words * a + total (running_totals 0 (low_words block)) =
-      rw add-zero at (running_from block words a 0 (omega arith)) in
-      let e : a + total (low_words block) ≡ a + x = omega (arith, whole.first-same) in
-      record {
-        first-same = omega (arith, rw d at sofar.first-same, low-append block rest parity, whole.first-same);
-        second-same = omega (arith, rw d at sofar.second-same, rw e at (running-append block rest a parity), from, whole.second-same);
-      }
-
-  product_less : f < 65536 → length s ≤ 16777216 → Sums s f g at a b → words * a ≤ words * 2 ^ 39
-  product_less hf hs sums = mul-le-mul_left words (omega arith)
-
-  pub sums_more : f < 65536 → length s ≤ 16777216 → Sums s f g at a b → Sums s f g end (a + x) (b + (words * a + y))
-  sums_more hf hs sums =
-      let long : length (part s at (end - at)) ≡ end - at = length_part s at (end - at) (omega arith) in
-      let product = product_less hf hs sums in
-      record { within = high; small = omega arith; great = omega arith; exact = rows_more sums.exact }
-
--- After `at` bytes the sums, which may have been folded, still lead to the totals' remainders.
-pub record Folding (s : List ℕ) (at first second : ℕ) : Type 0 where
-  pub first-same : folded (first_total first (drop at s)) ≡ folded (first_total 0 s)
-  pub second-same : folded (second_total first second (drop at s)) ≡ folded (second_total 0 0 s)
-
--- A block more, which the lanes pass whole: its number of bytes is a multiple of sixteen.
-pub block_more : (s : List ℕ) (at end f g i a b x y : ℕ) → Folding s at f g → at ≤ end → end ≤ length s → (end - at) % 16 ≡ 0
-    → Sofar (part s at (end - at)) f g i a b → i % 16 ≡ 0 → length (part s at (end - at)) < i + 16 → x ≡ folded a → y ≡ folded b → Folding s end x y
-block_more s at end f g i a b x y before low high whole sofar turns past ex ey =
-    let block = part s at (end - at) in
-    let rest = drop end s in
-    let long : length block ≡ end - at = length_part s at (end - at) (omega arith) in
-    let ended = at-end block f g i a b sofar (omega arith) in
-    let parity : length block % 2 ≡ 0 = omega arith in
-    let first : first_total a rest ≡ first_total f (drop at s) = rw (cut s at end low) (omega (arith, low-append block rest parity, ended.0)) in
-    let second : second_total a b rest ≡ second_total f g (drop at s) =
-    rw (cut s at end low) (omega (arith, rw ended.0 at (running-append block rest f parity), ended.1)) in
-    rw (ex, ey)
-    (record {
-      first-same = folded_add a (total (low_words rest)) ∙ ap folded first ∙ before.first-same;
-      second-same = folded_add b (total (running_totals (folded a) (low_words rest))) ∙ folded_running a b (low_words rest) ∙ ap folded second ∙ before.second-same;
-    })
-
--- What is left is the last block.
-pub any_answer : (s : List ℕ) (at f g r : ℕ) → Folding s at f g
-    → r ≡ ordered (first_total f (part s at (length s - at))) (second_total f g (part s at (length s - at))) → (r ≡ checksum s) × (r < 2 ^ 32)
-any_answer s at f g r folding e = answer s r (rw (part_rest s at) at e ∙ rw (folding.first-same, folding.second-same))
+pub any_answer : (s rest : List ℕ) (i a b x y u v r : ℕ) → rest ≡ drop (length s / 4096 * 4096) s → i ≡ length s / 4096 → Folded (take (4096 * i) s) a b → After rest a b x y
+    → (u ≡ folded x) × (v ≡ folded y) → r ≡ folded (256 * v) * 65536 + folded (256 * u) → (r ≡ checksum s) × (r < 2 ^ 32)
+any_answer s rest i a b x y u v r back turns before after e d =
+    let same : length s / 4096 * 4096 ≡ 4096 * i = omega arith in
+    let all = folded_both (take (4096 * i) s) (drop (4096 * i) s) a b x y u v (even_front s (4096 * i) (omega arith) (omega arith)) before (rw (← same, ← back) after) e.0 e.1 in
+    answer s u v r (rw (take-append-drop (4096 * i) s) at all) d

@@ -1,19 +1,14 @@
--- Blocks of even length, with the sums folded between them, leave the same remainders.
-use native.Mathlib.Omega.{arith}
-use borrow.Author.Rules.{rules}
-use Rattle.checksum.proofs.Laws.{block_more, any_answer}
+-- Parts of even length, with the sums folded between them, leave the same remainders.
+use Rattle.std.proofs.Common.{arith, rules}
+use Rattle.checksum.proofs.Laws.{folded_turn, any_answer}
 use Rattle.checksum.proofs.fletcher32_any.Goals as goal
 
-pub loop-at-preserved : goal.loop-at-preserved
-loop-at-preserved c =
-    let l = c.loop-at in (
-      search rules,
-      search rules,
-      search rules,
-      search rules,
-      block_more _ l.at _ _ _ _ _ _ _ _ l.invariant.4 (omega arith) (omega arith) (omega arith) c.lanes-passed.ensures.sums.exact c.lanes-passed.ensures.at_value.0 c.lanes-passed.ensures.at_value.1 c.fold-first.ensures.0
-          c.fold-second.ensures.0,
-    )
+pub loop-part-preserved : goal.loop-part-preserved
+loop-part-preserved c = record {
+  first_small = search rules;
+  second_small = search rules;
+  sums = folded_turn _ _ _ _ _ _ _ _ _ c.as_chunks.ensures.front (omega arith) c.loop-part.invariant.sums c.with_part.ensures (c.folded-sums.ensures.0, c.folded-sums.ensures.1);
+}
 
 pub returns : goal.returns
-returns c = any_answer _ c.loop-at.at _ _ _ c.loop-at.invariant.4 c.last_block.ensures
+returns c = any_answer _ _ _ _ _ _ _ _ _ _ c.as_chunks.ensures.back (omega arith) c.loop-part.invariant.sums c.with_part-2.ensures (c.folded.ensures.0, c.folded.ensures.1) c.checksum.ensures

@@ -1,12 +1,11 @@
--- Blocks of even length, with the sums folded between them, leave the same remainders.
-use mathlib.Core.Path.{◌≡◌}
-use Prim.Native.Nat.{◌-◌, ◌≤◌, ◌<◌}
-use lib.ListN.{length}
-use Rattle.checksum.proofs.Laws.{Folding}
+-- Each turn passes a part.
+use Rattle.std.proofs.Common.{◌*◌, ◌<◌, take}
+use Rattle.checksum.proofs.Laws.{Folded}
 use Rattle.checksum.proofs.fletcher32_any.Given as goal
 
-abbrev pub invariant-loop-at : goal.invariant-loop-at
-invariant-loop-at l = (l.n ≡ length l.bytes) × (l.at ≤ l.n) × (l.first < 65536) × (l.second < 65536) × Folding l.bytes l.at l.first l.second
-
-abbrev pub decreases-loop-at : goal.decreases-loop-at
-decreases-loop-at l = l.n - l.at
+abbrev pub invariant-loop-part : goal.invariant-loop-part
+invariant-loop-part l = record {
+  first_small : l.sums.first < 65536;
+  second_small : l.sums.second < 65536;
+  sums : Folded (take (4096 * l.part-index) l.bytes) l.sums.first l.sums.second;
+}
