@@ -1,17 +1,18 @@
 // A write: its rows, then its pages and the session's new size.
 #![tactic(auto)]
 
-ghost use Rattle.std.specs.Prelude.{◌≡◌, ◌+◌, ◌≤◌, length};
+ghost use Rattle.std.specs.Prelude.{◌≡◌, ◌+◌, ◌≤◌, length, OnOk};
 ghost use Rattle.rules.specs.Layout.{limit, index_of};
 ghost use Rattle.rules.specs.View.{own_pages, own_address, pages_shared};
 ghost use Rattle.rules.specs.Session.{Held, touching, written};
 ghost use Rattle.rules.specs.Rows.{write_too_far, too_many, no_room};
-ghost use Rattle.rules.specs.Calls.{Outcome, row, ◌then◌, write};
+ghost use Rattle.rules.specs.Calls.{outcome, row, ◌then◌, write};
+ghost use Rattle.rules.specs.Refusals.{told};
 ghost use Rattle.sessions.specs.Sound.{SoundSession};
 ghost use Rattle.writing.specs.Writable.{Writable, rows_behind};
 
-use rules::{Record, Setting, State};
-use sessions::Answered;
+use records::Revision;
+use rules::{Refusal, State};
 use touching::Write;
 use view::View;
 
@@ -24,52 +25,56 @@ fn write_too_far(at: u64, n: u64) -> bool
 }
 
 // Rows 14 and 15, judged on the pages and entries that would result.
-fn room_rows(st: State, history: &[u8], s: Setting, r: Record, at: usize, n: usize) -> u64
-    requires { (SoundSession history.now s st r) × (at + n ≤ limit) }
-    ensures { result ≡ row 14 (too_many (index_of history.now s.form r) (touching (own_pages st) (pages_shared s.form.page at n)))
-        then row 15 (no_room (length history.now) (own_address s st (length (touching (own_pages st) (pages_shared s.form.page at n))))) }
+fn room_rows(
+    st: State,
+    history: &[u8],
+    parent: Revision,
+    at: usize,
+    n: usize,
+) -> Result<(), Refusal>
+    requires { (SoundSession history.now parent.setting st parent.record) × (at + n ≤ limit) }
+    ensures { let s = parent.setting in let would = touching (own_pages st) (pages_shared s.form.page at n) in
+        told result ≡ row 14 (too_many (index_of history.now s.form parent.record) would)
+        then row 15 (no_room (length history.now) (own_address s st (length would))) }
 {
-    let x = records::index_in(s, r);
+    let x = records::index_in(parent.setting, parent.record);
     let own = &st.pages[..st.n as usize];
     let before = merge::merged_count(history, x, own);
     let would = touching::count_pages(history, x, own, before, at, n);
     if layout::TOUCHED < would.touched as u64 {
-        return 14;
+        return Err(Refusal::TooMany);
     }
     if layout::ENTRIES < would.merged as u64 {
-        return 14;
+        return Err(Refusal::TooMany);
     }
-    if (history.len() as u64) < st.end + would.touched as u64 * s.form.page {
-        return 15;
+    if (history.len() as u64) < st.end + would.touched as u64 * parent.setting.form.page {
+        return Err(Refusal::NoRoom);
     }
-    0
+    Ok(())
 }
 
 // Rows 10, 19, 14, 15, 9, behind those of the session.
-fn write_rows(st: State, history: &[u8], s: Setting, r: Record, at: u64, n: usize) -> u64
-    requires { SoundSession history.now s st r }
-    ensures number { result ≡ rows_behind st history.now s r at n }
-    ensures fits { result ≡ 0 → Writable history.now s st r at n }
+fn write_rows(st: State, history: &[u8], parent: Revision, at: u64, n: usize) -> Result<(), Refusal>
+    requires { SoundSession history.now parent.setting st parent.record }
+    ensures number { told result ≡ rows_behind st history.now parent.setting parent.record at n }
+    ensures fits { OnOk result (Writable history.now parent.setting st parent.record at n) }
 {
     if st.size < at {
-        return 10;
+        return Err(Refusal::Outside);
     }
     if write_too_far(at, n as u64) {
-        return 19;
+        return Err(Refusal::TooFar);
     }
-    let number = room_rows(st, history, s, r, at as usize, n);
-    if number != 0 {
-        return number;
-    }
+    room_rows(st, history, parent, at as usize, n)?;
     let v = View {
-        index: records::index_in(s, r),
+        index: records::index_in(parent.setting, parent.record),
         end: st.end as usize,
         own: &st.pages[..st.n as usize],
     };
     if view::range_wrong(history, v, at as usize, n) {
-        return 9;
+        return Err(Refusal::PageSum);
     }
-    0
+    Ok(())
 }
 
 // Writes the pages, and lets the session grow to the end of what was written.
@@ -77,20 +82,20 @@ fn put_written(
     st: State,
     original: &[u8],
     history: &mut [u8],
-    s: Setting,
-    r: Record,
+    parent: Revision,
     at: usize,
     bytes: &[u8],
 ) -> State
-    requires { Writable history.old s st r at (length bytes.now) }
-    ensures { ◌≡◌ {A = Held} (record { history = history.exit.now; session = result })
-        (written original.now s (index_of history.entry.now s.form r) at bytes.now (record { history = history.entry.now; session = st })) }
+    requires { Writable history.old parent.setting st parent.record at (length bytes.now) }
+    ensures { let s = parent.setting in
+        ◌≡◌ {A = Held} (record { history = history.exit.now; session = result })
+        (written original.now s (index_of history.entry.now s.form parent.record) at bytes.now (record { history = history.entry.now; session = st })) }
 {
     let size = (st.size as usize).max(at + bytes.len());
     let write = Write {
         original,
-        setting: s,
-        index: records::index_in(s, r),
+        setting: parent.setting,
+        index: records::index_in(parent.setting, parent.record),
         offset: at,
         bytes,
     };
@@ -100,29 +105,16 @@ fn put_written(
 }
 
 // Writes bytes into a session from an offset on. A refusal leaves history and session alone.
-pub fn write(st: State, original: &[u8], history: &mut [u8], at: u64, bytes: &[u8]) -> Answered
-    ensures { ◌≡◌ {A = Outcome} (record { number = result.number; session = result.session; bytes = history.new })
-        (write st original.now history.old at bytes.now) }
+pub fn write(
+    st: State,
+    original: &[u8],
+    history: &mut [u8],
+    at: u64,
+    bytes: &[u8],
+) -> Result<State, Refusal>
+    ensures { outcome st result history.new ≡ write st original.now history.old at bytes.now }
 {
-    let judged = sessions::judge(st, original, history);
-    if judged.number != 0 {
-        return Answered {
-            number: judged.number,
-            session: st,
-        };
-    }
-    let s = judged.setting;
-    let r = judged.record;
-    let refused = write_rows(st, history, s, r, at, bytes.len());
-    if refused != 0 {
-        return Answered {
-            number: refused,
-            session: st,
-        };
-    }
-    let after = put_written(st, original, history, s, r, at as usize, bytes);
-    Answered {
-        number: 0,
-        session: after,
-    }
+    let parent = sessions::judge(st, original, history)?;
+    write_rows(st, history, parent, at, bytes.len())?;
+    Ok(put_written(st, original, history, parent, at as usize, bytes))
 }

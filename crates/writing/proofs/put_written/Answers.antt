@@ -13,4 +13,4 @@ put-t-requires c =
 pub returns : goal.returns
 returns c =
     let a = c.args in
-    written_whole _ _ a.s a.st a.r a.at _ c.index_in.ensures c.put-t.ensures c.max-size.ensures
+    written_whole _ _ a.parent.setting a.st a.parent.record a.at _ c.index_in.ensures c.put-t.ensures c.max-size.ensures

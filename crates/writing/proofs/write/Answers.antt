@@ -1,24 +1,23 @@
 -- Judged once; then the rows of the write, and its pages.
+use mathlib.Core.Path.{refl}
+use Rattle.rules.proofs.Refusals.{refused, handed_on}
 use Rattle.writing.proofs.Steps.{write_begin, write-behind, write_refused, write_done}
 use Rattle.writing.proofs.write.Goals as goal
 
-pub returns-then-judged-ne0 : goal.returns-then-judged-ne0
-returns-then-judged-ne0 c =
+pub returns-in_err-parent : goal.returns-in_err-parent
+returns-in_err-parent c =
     let a = c.args in
-    let refused = c.if-judged-ne0.true in
-    write_refused a.st _ _ a.at a.bytes.now _ (write_begin a.st _ _ a.at _ c.judge-judged.ensures.number refused) refused
+    rw (handed_on _ _ c.from_residual.ensures.1) (write_refused a.st _ _ a.at a.bytes.now _ (write_begin a.st _ _ a.at _ c.in_err-parent.ensures.number (refused _)) (refused _))
 
-pub returns-then-refused-ne0 : goal.returns-then-refused-ne0
-returns-then-refused-ne0 c =
-    let judged = c.judge-judged.ensures in
-    let zero = c.if-judged-ne0.false in
+pub returns-in_err-write_rows : goal.returns-in_err-write_rows
+returns-in_err-write_rows c =
+    let judged = c.in_ok-parent.ensures in
     let a = c.args in
-    write_refused a.st _ _ a.at a.bytes.now _ (write-behind a.st _ _ a.at _ judged.number zero (judged.sound zero) c.write_rows-refused.ensures.number) c.if-refused-ne0.true
+    rw (handed_on _ _ c.from_residual-in_err-write_rows.ensures.1) (write_refused a.st _ _ a.at a.bytes.now _ (write-behind a.st _ _ a.at _ judged.number refl judged.sound c.in_err-write_rows.ensures.number) (refused _))
 
 pub returns : goal.returns
 returns c =
-    let judged = c.judge-judged.ensures in
-    let zero = c.if-judged-ne0.false in
-    let w = judged.sound zero in
+    let judged = c.in_ok-parent.ensures in
+    let w = judged.sound in
     let a = c.args in
-    write_done a.st _ _ a.at a.bytes.now (write-behind a.st _ _ a.at _ judged.number zero w c.write_rows-refused.ensures.number) c.if-refused-ne0.false w c.put_written-after.ensures
+    write_done a.st _ _ a.at a.bytes.now (write-behind a.st _ _ a.at _ judged.number refl w c.in_ok-write_rows.ensures.number) refl w c.put_written.ensures
