@@ -1,7 +1,7 @@
 // A commit: its rows, then the record, the new whole history and, last, the header.
 #![tactic(auto)]
 
-ghost use Rattle.std.specs.Prelude.{◌≡◌, ◌++◌, ◌+◌, ◌≤◌, ◌<◌, length};
+ghost use Rattle.std.specs.Prelude.{◌≡◌, ◌++◌, ◌+◌, ◌≤◌, ◌<◌, length, IfOk};
 ghost use Rattle.rules.specs.Bytes.{laid};
 ghost use Rattle.rules.specs.Layout.{
   limit,
@@ -18,13 +18,13 @@ ghost use Rattle.rules.specs.Layout.{
 };
 ghost use Rattle.rules.specs.Session.{merged_index, record_stored, setting_stored, locations_stored};
 ghost use Rattle.rules.specs.Rows.{texts_wrong, no_room};
-ghost use Rattle.rules.specs.Calls.{Outcome, commit_rows, commit};
+ghost use Rattle.rules.specs.Calls.{outcome, commit_rows, commit};
+ghost use Rattle.rules.specs.Refusals.{told};
 ghost use Rattle.layout.specs.Paged.{Paged, farthest};
 ghost use Rattle.whole.specs.Places.{Extensible};
 ghost use Rattle.committing.specs.Stored.{Small, Standing, Committable, texts_stored};
 
-use rules::{Form, Record, Setting, State};
-use sessions::Answered;
+use rules::{Form, Record, Refusal, Setting, State};
 
 // ---- Rows
 
@@ -81,45 +81,35 @@ fn no_room(room: usize, s: Setting, r: Record) -> bool
     (room as u64) < layout::end_of(form, t.address, t.size)
 }
 
-// A commit that rows have judged: their number and, where it is 0, what the history says of itself, the parent's record and the one to
-// be stored.
+// A commit that rows have passed: what the history says of itself, the parent's record and the one to be stored.
 #[derive(Clone, Copy)]
-pub struct Judged {
-    pub number: u64,
-    pub setting: Setting,
-    pub parent: Record,
-    pub record: Record,
-}
-
-fn refused(number: u64, s: Setting, parent: Record) -> Judged
-    ensures { result.number ≡ number }
-{
-    Judged {
-        number,
-        setting: s,
-        parent,
-        record: parent,
-    }
+struct Prepared {
+    setting: Setting,
+    parent: Record,
+    record: Record,
 }
 
 // Commit 1, 2, 3, 5, 13, 7, 8, 14, 16, 15. Row 13 has seen to it that no more than 256 pages are touched.
-fn judge(st: State, history: &[u8], time: &[u8], name: &[u8], comment: &[u8]) -> Judged
-    ensures number { result.number ≡ commit_rows st history.now time.now name.now comment.now }
-    ensures standing { result.number ≡ 0 → Committable history.now result.setting st result.parent result.record time.now name.now comment.now }
+fn prepare(
+    st: State,
+    history: &[u8],
+    time: &[u8],
+    name: &[u8],
+    comment: &[u8],
+) -> Result<Prepared, Refusal>
+    ensures number { told result ≡ commit_rows st history.now time.now name.now comment.now }
+    ensures standing { IfOk result (λ p. Committable history.now p.setting st p.parent p.record time.now name.now comment.now) }
 {
-    let held = sessions::judge_alone(st, history);
+    let held = sessions::judge_alone(st, history)?;
     let setting = held.setting;
     let parent = held.record;
-    if held.number != 0 {
-        return refused(held.number, setting, parent);
-    }
     let x = records::index_in(setting, parent);
     let entries = merge::merged_count(history, x, &st.pages[..st.n as usize]) as u64;
     if layout::ENTRIES < entries {
-        return refused(14, setting, parent);
+        return Err(Refusal::TooMany);
     }
     if texts_wrong(time, name, comment) {
-        return refused(16, setting, parent);
+        return Err(Refusal::Texts);
     }
     let record = record_stored(
         setting,
@@ -129,29 +119,28 @@ fn judge(st: State, history: &[u8], time: &[u8], name: &[u8], comment: &[u8]) ->
         comment.len() as u64,
     );
     if no_room(history.len(), setting, record) {
-        return refused(15, setting, parent);
+        return Err(Refusal::NoRoom);
     }
-    Judged {
-        number: 0,
+    Ok(Prepared {
         setting,
         parent,
         record,
-    }
+    })
 }
 
 // ---- Stores, each behind the one before it
 
 // The record's front, and the merged index, which is put together where it stands from what lies ahead of the record.
-fn put_indexed(history: &mut [u8], st: State, j: Judged, time: &[u8], user: u32)
-    requires { (Standing history.old j.setting st j.parent j.record) × (length time.now ≡ 16) }
-    ensures { history.new ≡ laid history.old j.record.address
-        (front_bytes j.setting.form j.record time.now user
-        ++ index_bytes j.setting.form (merged_index history.old j.setting st (index_of history.old j.setting.form j.parent))) }
+fn put_indexed(history: &mut [u8], st: State, p: Prepared, time: &[u8], user: u32)
+    requires { (Standing history.old p.setting st p.parent p.record) × (length time.now ≡ 16) }
+    ensures { history.new ≡ laid history.old p.record.address
+        (front_bytes p.setting.form p.record time.now user
+        ++ index_bytes p.setting.form (merged_index history.old p.setting st (index_of history.old p.setting.form p.parent))) }
 {
-    let s = j.setting;
+    let s = p.setting;
     let form = s.form;
-    let r = j.record;
-    let x = records::index_in(s, j.parent);
+    let r = p.record;
+    let x = records::index_in(s, p.parent);
     let to = r.address as usize + layout::front_width(form);
     records::put_front(history, form, r, time, user);
     merge::put_merged(history, x, &st.pages[..st.n as usize], st.end as usize, to);
@@ -190,24 +179,14 @@ pub fn commit(
     user: u32,
     name: &[u8],
     comment: &[u8],
-) -> Answered
-    ensures { ◌≡◌ {A = Outcome} (record { number = result.number; session = result.session; bytes = history.new })
-        (commit st history.old time.now user name.now comment.now) }
+) -> Result<State, Refusal>
+    ensures { outcome st result history.new ≡ commit st history.old time.now user name.now comment.now }
 {
-    let j = judge(st, history, time, name, comment);
-    if j.number != 0 {
-        return Answered {
-            number: j.number,
-            session: st,
-        };
-    }
-    let s = j.setting;
-    let r = j.record;
-    put_indexed(history, st, j, time, user);
+    let p = prepare(st, history, time, name, comment)?;
+    let s = p.setting;
+    let r = p.record;
+    put_indexed(history, st, p, time, user);
     put_texts(history, s.form, r, name, comment);
     put_end(history, s, r);
-    Answered {
-        number: 0,
-        session: sessions::ended(),
-    }
+    Ok(sessions::ended())
 }
