@@ -57,10 +57,6 @@ setting_parts h count a b c d e f = rw (b, c, d, e, f, a)
 
 -- ---- Bytes
 
-pub flags_are : (s : Setting) (lock branching : Bool) → s.lock ≡ lock → s.branching ≡ branching → cond lock 1 0 + cond branching 2 0 ≡ flags_of s
-unfolding flags_of
-flags_are s lock branching a b = rw (a, b)
-
 -- The version and the flags are one number of four bytes.
 version_flags : (v flags : ℕ) → v < 256 → number_bytes 4 (v + flags * 256) ≡ v ∷ number_bytes 3 flags
 unfolding number_bytes

@@ -1,10 +1,11 @@
 -- The masks of the flags, as arithmetic.
 use mathlib.Core.Path.{◌≡◌, refl}
-use mathlib.Core.Bool.{Bool, true, false}
-use Prim.Native.Nat.{ℕ, ◌*◌, ◌/◌, ◌%◌, ◌<◌}
+use mathlib.Core.Bool.{Bool, true, false, cond}
+use Prim.Native.Nat.{ℕ, ◌+◌, ◌*◌, ◌/◌, ◌%◌, ◌<◌}
 use native.Mathlib.Nat.{mod-eq_of_lt}
 use native.Mathlib.Omega.{arith}
-use lib.Bits.{bit_and, and_mask, and_high}
+use mir.Val.{bool_byte}
+use lib.Bits.{bit_and, bit_or, and_mask, and_high}
 use lib.Dec.{eqb, ltb}
 use borrow.Author.Tests.{eq-eqb, ne_eqb, eqb-true, eqb-false, ltb-true, ltb-false}
 
@@ -27,3 +28,11 @@ rest_mask f h = rw (and_high f 6 2) (go (ltb f 4) refl)
     go : (b : Bool) → ltb f 4 ≡ b → eqb (f / 4 % 64 * 4) 0 ≡ b
     go true e = rw small (eq-eqb (f / 4 * 4) 0 (omega (arith, ltb-true f 4 e)))
     go false e = rw small (ne_eqb (f / 4 * 4) 0 (omega (arith, ltb-false f 4 e)))
+
+-- The flags joined are the sum of their bits.
+pub flags_joined : (lock branching : Bool)
+    → (bit_or (bool_byte lock * 1) (bool_byte branching * 2) ≡ cond lock 1 0 + cond branching 2 0) × (bit_or (bool_byte lock * 1) (bool_byte branching * 2) < 4)
+flags_joined true true = (refl, omega arith)
+flags_joined true false = (refl, omega arith)
+flags_joined false true = (refl, omega arith)
+flags_joined false false = (refl, omega arith)

@@ -96,18 +96,6 @@ pub fn header_rows(history: &[u8]) -> Result<(), Refusal>
 
 // ---- What the header says
 
-fn lock_set(flags: u8) -> bool
-    ensures { result ≡ eqb (flags % 2) 1 }
-{
-    flags & LOCK == LOCK
-}
-
-fn branching_allowed(flags: u8) -> bool
-    ensures { result ≡ eqb (flags / 2 % 2) 1 }
-{
-    flags & BRANCHING == BRANCHING
-}
-
 // The header's fields, with a count that does not stand in it.
 pub fn setting_with(history: &[u8], count: u64) -> Setting
     requires { header_width ≤ length history.now }
@@ -120,8 +108,8 @@ pub fn setting_with(history: &[u8], count: u64) -> Setting
         address: layout::get_address(form, history, 20),
         size: numbers::get_u64(history, 28),
         count,
-        lock: lock_set(history[5]),
-        branching: branching_allowed(history[5]),
+        lock: history[5] & LOCK == LOCK,
+        branching: history[5] & BRANCHING == BRANCHING,
     }
 }
 
@@ -130,16 +118,9 @@ pub fn setting_with(history: &[u8], count: u64) -> Setting
 fn flags_of(s: Setting) -> u64
     ensures { (result ≡ flags_of s) × (result < 4) }
 {
-    if s.lock {
-        if s.branching {
-            return (LOCK | BRANCHING) as u64;
-        }
-        return LOCK as u64;
-    }
-    if s.branching {
-        return BRANCHING as u64;
-    }
-    0
+    let lock = u8::from(s.lock) * LOCK;
+    let branching = u8::from(s.branching) * BRANCHING;
+    u64::from(lock | branching)
 }
 
 // The bytes ahead of the header's checksum.
