@@ -1,6 +1,7 @@
 -- Judged once; then the rows and the bytes of the session's view.
+use Prim.Native.Nat.{ℕ}
 use native.Mathlib.Omega.{arith}
-use Rattle.rules.proofs.Range.{own-length}
+use lib.ListN.{length-take}
 use Rattle.reading.proofs.Seen.{view_seen}
 use Rattle.session_reading.proofs.Steps.{read_refused, begin_refused, rows_behind_lem, read_done}
 use Rattle.session_reading.proofs.session_read.Goals as goal
@@ -14,7 +15,7 @@ returns-then-judged-ne0 c =
 pub range_rows-number-requires : goal.range_rows-number-requires
 range_rows-number-requires c =
     let w = c.judge-judged.ensures.sound c.if-judged-ne0.false in
-    (view_seen w.parent c.index_in.ensures (rw (own-length c.args.st (omega (arith, w.touched))) w.room), w.small)
+    (view_seen w.parent c.index_in.ensures w.room (omega (arith, length-take {A = ℕ})), w.small)
 
 pub returns-then-number-ne0 : goal.returns-then-number-ne0
 returns-then-number-ne0 c =
@@ -26,7 +27,7 @@ returns-then-number-ne0 c =
 pub put_view-requires : goal.put_view-requires
 put_view-requires c =
     let w = c.judge-judged.ensures.sound c.if-judged-ne0.false in
-    (view_seen w.parent c.index_in.ensures (rw (own-length c.args.st (omega (arith, w.touched))) w.room), omega (arith, c.range_rows-number.ensures.inside c.if-number-ne0.false, w.small))
+    (view_seen w.parent c.index_in.ensures w.room (omega (arith, length-take {A = ℕ})), omega (arith, c.range_rows-number.ensures.inside c.if-number-ne0.false, w.small))
 
 pub returns : goal.returns
 returns c =
