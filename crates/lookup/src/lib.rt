@@ -33,7 +33,7 @@ fn refused(number: u64) -> Found
 // Where the page lies, once rows 1 to 8 have passed: rows 10, 20 and 9, and then the place.
 fn found_in(original: &[u8], history: &[u8], v: View, size: u64, address: u64) -> Found
     requires { (Seen history.now v) × (size ≤ limit) }
-    ensures value { result ≡ look_up_in original.now history.now v.index size address }
+    ensures value { result ≡ look_up_in original.now history.now v.entry.index size address }
     ensures lies { Lies original.now history.now result }
 {
     let x = v.index;
@@ -79,7 +79,7 @@ pub fn look_up_place(original: &[u8], history: &[u8], revision: u64, address: u6
     let v = View {
         index: records::index_in(judged.setting, r),
         end: 0,
-        own: 0,
+        own: &[],
     };
     found_in(original, history, v, r.logical, address)
 }

@@ -17,28 +17,29 @@ use Rattle.records.specs.Sound.{Standing, index_in}
 use Rattle.records.proofs.Fields.{index-there}
 use Rattle.records.proofs.Stands.{index-rising, page-multiple, page-ahead}
 use Rattle.view.specs.Seen.{Seen}
+use Rattle.view.specs.declared.View.{View}
 
-module _ {h : List ℕ} {s : Setting} {k : ℕ} {r : Record} (w : Standing h s k r) {x : Index} (e : x ≡ index_in s r) where
-  pub view_seen : (end own : ℕ) → end + own * s.form.page ≤ length h → Seen h (record { index = x; end = end; own = own })
+module _ {h : List ℕ} {s : Setting} {k : ℕ} {r : Record} (w : Standing h s k r) where
+  pub view_seen : {v : View} → v.index ≡ index_in s r → v.end + length v.own.now * s.form.page ≤ length h → Seen h v
   unfolding index_in
-  view_seen end own l =
-      let v = w.sound in
+  view_seen {v} e l =
+      let whole = w.sound in
       let q = w.right in
-      rw e
-      (record {
-        short = v.short;
-        allowed = v.allowed;
-        least = v.paged.least;
-        most = v.paged.most;
-        few = q.few;
-        room = omega (arith, q.inside, v.inside);
-        rising = index-rising h s r q;
-        multiple = page-multiple h s r q;
-        stored = λ i j. omega (arith, page-ahead h s r q i j, q.below, v.inside);
-        owned = l;
-      })
+      record {
+        short = whole.short;
+        allowed = rw e whole.allowed;
+        least = rw e whole.paged.least;
+        most = rw e whole.paged.most;
+        few = rw e q.few;
+        room = rw e (omega (arith, q.inside, whole.inside));
+        rising = rw e (index-rising h s r q);
+        multiple = rw e (page-multiple h s r q);
+        stored = rw e (λ i j. omega (arith, page-ahead h s r q i j, q.below, whole.inside));
+        owned = rw e l;
+      }
 
-  -- Its pages and bytes are those of the record's index.
+-- Its pages and bytes are those of the record's index.
+module _ {h : List ℕ} {s : Setting} {k : ℕ} {r : Record} (w : Standing h s k r) {x : Index} (e : x ≡ index_in s r) where
   pub view-pages : (own : List ℕ) (at n : ℕ) {b : Bool} → b ≡ pages_wrong own h x.form.page (entries_in h x) (pages_shared x.form.page at n)
       → b ≡ pages_wrong own h s.form.page (index_of h s.form r) (pages_shared s.form.page at n)
   unfolding index_in

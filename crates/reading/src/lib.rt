@@ -1,38 +1,33 @@
 // Reading a revision. A revision is read as a session that has touched no page, so what both have in common stands here.
 #![tactic(auto)]
 
-ghost use Rattle.std.specs.Prelude.{◌≡◌, ◌+◌, ◌≤◌, length, take};
-ghost use Rattle.rules.specs.Layout.{limit, entries_in};
+ghost use Rattle.std.specs.Prelude.{◌≡◌, ◌+◌, ◌≤◌};
+ghost use Rattle.rules.specs.Layout.{limit};
 ghost use Rattle.rules.specs.View.{pages_shared};
-ghost use Rattle.rules.specs.Rows.{read_outside, pages_wrong};
+ghost use Rattle.rules.specs.Rows.{read_outside};
 ghost use Rattle.rules.specs.Calls.{Reply, row, ◌then◌, read};
-ghost use Rattle.view.specs.Seen.{Seen};
+ghost use Rattle.view.specs.Seen.{Seen, unowned_pages_wrong};
 
 use view::View;
-
-const NO_PAGES: [u32; 1] = [0];
 
 // Row 10 of a read. The offset may be any number, so no sum is made.
 fn read_outside(size: u64, at: u64, n: u64) -> bool
     ensures { result ≡ read_outside size at n }
 {
-    if size < at {
-        return true;
-    }
-    size - at < n
+    size < at || size - at < n
 }
 
 // Rows 10 and 9 of a read of n bytes from an offset on, by the logical size and the view of what is read.
-pub fn range_rows(history: &[u8], v: View, pages: &[u32], size: u64, at: u64, n: usize) -> u64
-    requires { (Seen history.now v) × (v.own ≤ length pages.now) × (size ≤ limit) }
+pub fn range_rows(history: &[u8], v: View, size: u64, at: u64, n: usize) -> u64
+    requires { (Seen history.now v) × (size ≤ limit) }
     ensures number { result ≡ row 10 (read_outside size at n)
-        then row 9 (pages_wrong (take v.own pages.now) history.now v.index.form.page (entries_in history.now v.index) (pages_shared v.index.form.page at n)) }
+        then row 9 (unowned_pages_wrong history.now v.entry (pages_shared v.entry.index.form.page at n)) }
     ensures inside { result ≡ 0 → at + n ≤ size }
 {
     if read_outside(size, at, n as u64) {
         return 10;
     }
-    if view::range_wrong(history, v, pages, at as usize, n) {
+    if view::range_wrong(history, v, at as usize, n) {
         return 9;
     }
     0
@@ -51,12 +46,12 @@ pub fn read(original: &[u8], history: &[u8], revision: u64, at: u64, out: &mut [
     let v = View {
         index: records::index_in(judged.setting, r),
         end: 0,
-        own: 0,
+        own: &[],
     };
-    let number = range_rows(history, v, &NO_PAGES, r.logical, at, out.len());
+    let number = range_rows(history, v, r.logical, at, out.len());
     if number != 0 {
         return number;
     }
-    view::put_view(out, original, history, v, &NO_PAGES, at as usize);
+    view::put_view(out, original, history, v, at as usize);
     0
 }

@@ -23,16 +23,16 @@ pub fn session_read(st: State, original: &[u8], history: &[u8], at: u64, out: &m
     let v = View {
         index: records::index_in(judged.setting, judged.record),
         end: st.end as usize,
-        own: st.n as usize,
+        own: &st.pages[..st.n as usize],
     };
-    let number = reading::range_rows(history, v, &st.pages, st.size, at, out.len());
+    let number = reading::range_rows(history, v, st.size, at, out.len());
     if number != 0 {
         return Answered {
             number: number,
             session: st,
         };
     }
-    view::put_view(out, original, history, v, &st.pages, at as usize);
+    view::put_view(out, original, history, v, at as usize);
     Answered {
         number: 0,
         session: st,

@@ -1,14 +1,14 @@
 -- The session's own pages, laid over the revision's bytes.
 use mathlib.Core.Path.{◌≡◌, refl, ◌∙◌}
 use mathlib.Core.Bool.{true, false, cond}
-use mathlib.Core.List.{List, [], ◌∷◌}
+use mathlib.Core.List.{List, ◌∷◌}
 use mathlib.Core.Logic.{⊎_elim}
 use Prim.Native.Nat.{ℕ, suc, ◌+◌, ◌*◌, ◌-◌, ◌%◌, ◌≤◌, ◌<◌, min, max}
 use native.Mathlib.Nat.{add-zero, suc-mul, zero-mul, div-add-mod', mod-lt}
 use native.Mathlib.Omega.{arith}
 use lib.Dec.{eqb}
-use lib.ListN.{length, take, drop, get_or}
-use lib.Seq.{drop-length, drop-cons, length-take-le}
+use lib.ListN.{length, drop, get_or}
+use lib.Seq.{drop-length, drop-cons}
 use borrow.Author.Tests.{eq-eqb, ne_eqb}
 use Rattle.rules.specs.Bytes.{byte_at, part, laid, tabulate}
 use Rattle.rules.specs.Layout.{entries_in}
@@ -17,7 +17,6 @@ use Rattle.rules.specs.declared.Entry.{Entry}
 use Rattle.rules.proofs.Bytes.{length-tabulate, tabulate-same, byte-tabulate, whole-tabulate, part-laid_table}
 use Rattle.rules.proofs.Entries.{has_cons, either, order}
 use Rattle.rules.proofs.Range.{page-at, page-multiple}
-use Rattle.view.specs.Seen.{shown}
 use Rattle.view.specs.Places.{own_over}
 use Rattle.view.specs.declared.View.{View}
 use Rattle.view.proofs.Pages.{page_size}
@@ -82,42 +81,33 @@ over_cons o h p index x own stored i = rw (has_cons x own (page_of p i)) (⊎_el
     (either (eqb x (page_of p i))))
 
 -- Byte j with the own pages from one on over it.
-abbrev over : List ℕ → List ℕ → View → List ℕ → ℕ → ℕ → ℕ → ℕ
-over o h v own from mine j = shown_byte o h (page_size v) (entries_in h v.index) (v.end + mine * page_size v) (drop mine own) (from + j)
+abbrev over : List ℕ → List ℕ → View → ℕ → ℕ → ℕ → ℕ
+over o h v from mine j = shown_byte o h (page_size v) (entries_in h v.index) (v.end + mine * page_size v) (drop mine v.own.now) (from + j)
 
 -- Of n bytes that were the revision's, those with the own pages from one on laid over them.
-pub record Overlaid (o h : List ℕ) (v : View) (own : List ℕ) (from n : ℕ) (now : List ℕ) (mine : ℕ) : Type 0 where
-  pub within : mine ≤ length own
-  pub bytes : now ≡ tabulate n (λ j. over o h v own from mine j)
+pub record Overlaid (o h : List ℕ) (v : View) (from n : ℕ) (now : List ℕ) (mine : ℕ) : Type 0 where
+  pub within : mine ≤ length v.own.now
+  pub bytes : now ≡ tabulate n (λ j. over o h v from mine j)
 
 pub table-length : (n : ℕ) (f : ℕ → ℕ) {now : List ℕ} → now ≡ tabulate n f → length now ≡ n
 table-length n f e = rw e (length-tabulate n f)
 
-pub over-start : (o h : List ℕ) (v : View) (pages : List ℕ) (from n : ℕ) {now : List ℕ} → v.own ≤ length pages
-    → now ≡ revision_bytes o h (page_size v) (entries_in h v.index) from n → Overlaid o h v (take v.own pages) from (length now) now v.own
+pub over-start : (o h : List ℕ) (v : View) (from n : ℕ) {now : List ℕ} → now ≡ revision_bytes o h (page_size v) (entries_in h v.index) from n
+    → Overlaid o h v from n now (length v.own.now)
 unfolding shown_byte place_of
-over-start o h v pages from n l e =
-    let k : length (take v.own pages) ≡ v.own = length-take-le v.own pages l in
-    let d : drop v.own (take v.own pages) ≡ [] = rw k at (drop-length (take v.own pages)) in
-    record { within = omega arith; bytes = rw (table-length n _ e, d) e }
+over-start o h v from n e = record { within = omega arith; bytes = rw (drop-length v.own.now) e }
 
-module _ {o h : List ℕ} {v : View} {own : List ℕ} {from n : ℕ} {now : List ℕ} {mine : ℕ} (l : Overlaid o h v own from n now mine) where
+module _ {o h : List ℕ} {v : View} {from n : ℕ} {now : List ℕ} {mine : ℕ} (l : Overlaid o h v from n now mine) where
   pub over-length : length now ≡ n
   over-length = table-length n _ l.bytes
 
-  pub over_turn : (k : ℕ) → mine ≡ suc k → {address : ℕ} → address ≡ get_or own k 0 → {after : List ℕ}
-      → after ≡ tabulate (length now) (own_over now h (page_size v) address (v.end + k * page_size v) from) → Overlaid o h v own from n after k
+  pub over_turn : (k : ℕ) → mine ≡ suc k → {address : ℕ} → address ≡ get_or v.own.now k 0 → {after : List ℕ}
+      → after ≡ tabulate (length now) (own_over now h (page_size v) address (v.end + k * page_size v) from) → Overlaid o h v from n after k
   unfolding own_over
   over_turn k m {address} ea e = record {
     within = omega (arith, l.within);
     bytes = e ∙ rw over-length (tabulate-same n _ _ (λ j q.
-        let f : get_or now j 0 ≡ over o h v own from mine j = rw l.bytes (byte-tabulate n _ j q) in
+        let f : get_or now j 0 ≡ over o h v from mine j = rw l.bytes (byte-tabulate n _ j q) in
         let s : v.end + (k * page_size v + page_size v) ≡ v.end + k * page_size v + page_size v = omega arith in
-        rw (f, m, drop-cons own k 0 (omega (arith, l.within)), ← ea, over_cons o h (page_size v) (entries_in h v.index) address (drop (suc k) own) (v.end + k * page_size v) (from + j), suc-mul, s)));
+        rw (f, m, drop-cons v.own.now k 0 (omega (arith, l.within)), ← ea, over_cons o h (page_size v) (entries_in h v.index) address (drop (suc k) v.own.now) (v.end + k * page_size v) (from + j), suc-mul, s)));
   }
-
-  pub over-end : mine ≡ 0 → {m : ℕ} → n ≡ m → now ≡ tabulate m (shown o h v own from)
-  over-end e f = l.bytes ∙ rw (e, zero-mul, add-zero, f)
-
-pub over-within : {o h : List ℕ} {v : View} (pages : List ℕ) {from n : ℕ} {now : List ℕ} {mine : ℕ} → v.own ≤ length pages → Overlaid o h v (take v.own pages) from n now mine → mine ≤ v.own
-over-within {o} {h} {v} pages f l = omega (arith, l.within, length-take-le v.own pages f)

@@ -1,6 +1,6 @@
 -- The pages of a range, checked one by one.
 use mathlib.Core.Path.{◌≡◌, refl, sym, ap, ◌∙◌}
-use mathlib.Core.Bool.{Bool, true, false, not, ◌&&◌, and-false, or-true}
+use mathlib.Core.Bool.{Bool, true, false, not, and-false, or-true}
 use mathlib.Core.List.{List}
 use mathlib.Core.Logic.{⊎_elim}
 use Prim.Native.Nat.{ℕ, zero, suc, ◌+◌, ◌*◌, ◌-◌, ◌/◌, ◌%◌, ◌≤◌, ◌<◌}
@@ -8,17 +8,16 @@ use native.Mathlib.Nat.{add-zero, zero-mul, suc-mul, mul-le-mul_right, lt_of_mul
 use native.Mathlib.Omega.{arith}
 use lib.ListN.{length, get_or}
 use borrow.Author.Tests.{ltb-true}
-use borrow.Author.Count.{below_more}
 use Rattle.rules.specs.Layout.{limit, entries_width, entry_at, entries_in}
 use Rattle.rules.specs.View.{place_of, has, logicals, has_page, pages_from, pages_in}
 use Rattle.rules.specs.Rows.{page_sum_wrong, page_wrong, pages_wrong}
 use Rattle.rules.specs.declared.Index.{Index}
 use Rattle.rules.specs.declared.Entry.{Entry}
 use Rattle.rules.proofs.Entries.{length-logicals_entries, entry_entries, logical_entries, place_hit, place_value, either, order}
-use Rattle.rules.proofs.Range.{pages_apart, pages-end-near, page-there, page-missing, entry-there}
+use Rattle.rules.proofs.Range.{pages_apart, pages-end-near, page-there, entry-there}
 use Rattle.layout.specs.Paged.{farthest}
 use Rattle.index.specs.Places.{Parted}
-use Rattle.view.specs.Seen.{Seen}
+use Rattle.view.specs.Seen.{Seen, unowned_wrong, unowned_pages_wrong}
 use Rattle.view.specs.declared.View.{View}
 
 -- The page size and the logical addresses of a view.
@@ -39,24 +38,20 @@ entry-room h v w place {e} l q = rw (q ∙ sym (entry_entries v.index.form h v.i
 
 -- ---- One page
 
-module _ (h : List ℕ) (p : ℕ) (x : Index) (a : ℕ) {place : ℕ} (ep : place ≡ place_of a (logicals (entries_in h x))) where
+module _ (h : List ℕ) (p : ℕ) (x : Index) (a : ℕ) where
   -- The index does not have it.
-  pub missing-page : x.entries ≤ place → false ≡ page_wrong h p (entries_in h x) a
+  pub missing-page : false ≡ has_page (entries_in h x) a → false ≡ page_wrong h p (entries_in h x) a
   unfolding page_wrong
-  missing-page l = rw (page-missing h x a ep l)
+  missing-page e = rw (← e)
 
   -- The index has it, at a place.
-  pub stored-page : place < x.entries → {e : Entry} → e ≡ entry_at x.form h (x.at + entries_width x.form place) → page_sum_wrong h p e ≡ page_wrong h p (entries_in h x) a
+  pub stored-page : {place : ℕ} → place ≡ place_of a (logicals (entries_in h x)) → place < x.entries → {e : Entry} → e ≡ entry_at x.form h (x.at + entries_width x.form place) → page_sum_wrong h p e ≡ page_wrong h p (entries_in h x) a
   unfolding page_wrong
-  stored-page l q = rw (page-there h x a ep l, ← entry-there h x a ep l, q)
+  stored-page ep l q = rw (page-there h x a ep l, ← entry-there h x a ep l, q)
 
 -- ---- One that is none of the session's own
 
--- A page that is none of the session's own, and whose checksum is wrong.
-abbrev unowned : List ℕ → List ℕ → View → ℕ → Bool
-unowned own h v a = not (has own a) && page_wrong h (page_size v) (entries_in h v.index) a
-
-module _ (own h : List ℕ) (v : View) (w : Seen h v) (place : ℕ) (there : place < v.index.entries) {e : Entry}
+module _ (h : List ℕ) (v : View) (w : Seen h v) (place : ℕ) (there : place < v.index.entries) {e : Entry}
     (q : e ≡ entry_at v.index.form h (v.index.at + entries_width v.index.form place)) where
   -- The addresses rise, so each stands once.
   stands : place ≡ place_of (get_or (addresses h v) place 0) (addresses h v)
@@ -71,68 +66,62 @@ module _ (own h : List ℕ) (v : View) (w : Seen h v) (place : ℕ) (there : pla
   judged = stored-page h (page_size v) v.index _ stands there q
 
   -- A page that is whole is fine, whose ever it is.
-  pub whole_fine : page_sum_wrong h (page_size v) e ≡ false → false ≡ unowned own h v (get_or (addresses h v) place 0)
-  whole_fine g = rw (sym judged ∙ g) (sym (and-false (not (has own (get_or (addresses h v) place 0)))))
+  pub whole_fine : page_sum_wrong h (page_size v) e ≡ false → false ≡ unowned_wrong h v (get_or (addresses h v) place 0)
+  whole_fine g = rw (sym judged ∙ g) (sym (and-false (not (has v.own.now (get_or (addresses h v) place 0)))))
 
-  pub owned_fine : has own e.logical ≡ true → false ≡ unowned own h v (get_or (addresses h v) place 0)
+  pub owned_fine : has v.own.now e.logical ≡ true → false ≡ unowned_wrong h v (get_or (addresses h v) place 0)
   owned_fine o = rw (← value, o)
 
-  pub unowned-page : has own e.logical ≡ false → page_sum_wrong h (page_size v) e ≡ unowned own h v (get_or (addresses h v) place 0)
+  pub unowned-page : has v.own.now e.logical ≡ false → page_sum_wrong h (page_size v) e ≡ unowned_wrong h v (get_or (addresses h v) place 0)
   unowned-page o = judged ∙ rw (← value, o)
 
 -- ---- Several
 
-module _ (own h : List ℕ) (v : View) where
-  wrong_one : (a m j : ℕ) → j < m → unowned own h v (a + j * page_size v) ≡ true → pages_wrong own h (page_size v) (entries_in h v.index) (pages_from (page_size v) a m) ≡ true
+module _ (h : List ℕ) (v : View) where
+  wrong_one : (a m j : ℕ) → j < m → unowned_wrong h v (a + j * page_size v) ≡ true → unowned_pages_wrong h v (pages_from (page_size v) a m) ≡ true
   unfolding pages_wrong pages_from
   wrong_one a zero j l e = absurd (omega arith)
   wrong_one a (suc m) zero l e = let z : a + 0 * page_size v ≡ a = rw (zero-mul, add-zero) in rw (rw z at e)
   wrong_one a (suc m) (suc j) l e =
       let z : a + suc j * page_size v ≡ a + page_size v + j * page_size v = rw suc-mul (omega arith) in
-      rw (wrong_one (a + page_size v) m j (omega arith) (rw z at e)) (or-true (unowned own h v a))
+      rw (wrong_one (a + page_size v) m j (omega arith) (rw z at e)) (or-true (unowned_wrong h v a))
 
-  wrong-none : (a m : ℕ) → ((j : ℕ) → j < m → unowned own h v (a + j * page_size v) ≡ false) → pages_wrong own h (page_size v) (entries_in h v.index) (pages_from (page_size v) a m) ≡ false
+  wrong-none : (a m : ℕ) → ((j : ℕ) → j < m → unowned_wrong h v (a + j * page_size v) ≡ false) → unowned_pages_wrong h v (pages_from (page_size v) a m) ≡ false
   unfolding pages_wrong pages_from
   wrong-none a zero f = refl
   wrong-none a (suc m) f =
       let z : a + 0 * page_size v ≡ a = rw (zero-mul, add-zero) in
-      let y : (j : ℕ) → j < m → unowned own h v (a + page_size v + j * page_size v) ≡ false =
+      let y : (j : ℕ) → j < m → unowned_wrong h v (a + page_size v + j * page_size v) ≡ false =
       λ j l. let x : a + suc j * page_size v ≡ a + page_size v + j * page_size v = rw suc-mul (omega arith) in rw x at (f (suc j) (omega arith)) in
       rw (rw z at (f 0 (omega arith)), wrong-none (a + page_size v) m y)
 
-  missing_fine : (a : ℕ) → has_page (entries_in h v.index) a ≡ false → unowned own h v a ≡ false
+  missing_fine : (a : ℕ) → has_page (entries_in h v.index) a ≡ false → unowned_wrong h v a ≡ false
   unfolding page_wrong
-  missing_fine a e = rw e (and-false (not (has own a)))
+  missing_fine a e = rw e (and-false (not (has v.own.now a)))
 
 -- The entries of the pages from an address on that stand ahead of a place are fine, the others are still to be checked.
-pub record EntriesLeft (own h : List ℕ) (v : View) (first place : ℕ) : Type 0 where
-  pub fine : (k : ℕ) → k < place → first ≤ get_or (addresses h v) k 0 → unowned own h v (get_or (addresses h v) k 0) ≡ false
+pub record EntriesLeft (h : List ℕ) (v : View) (first place : ℕ) : Type 0 where
+  pub fine : (k : ℕ) → k < place → first ≤ get_or (addresses h v) k 0 → unowned_wrong h v (get_or (addresses h v) k 0) ≡ false
   pub left : (k : ℕ) → place ≤ k → k < length (addresses h v) → first ≤ get_or (addresses h v) k 0
 
-pub entries-start : (own h : List ℕ) (v : View) (first : ℕ) {place : ℕ} → Parted (addresses h v) first place place → EntriesLeft own h v first place
-entries-start own h v first b = record { fine = λ k l m. absurd (omega (arith, b.below k l)); left = b.above }
-
-module _ {own h : List ℕ} {v : View} (w : Seen h v) (first m : ℕ) {place last : ℕ} (l : EntriesLeft own h v first place) (b : Parted (addresses h v) (first + m * page_size v) last last) where
+module _ {h : List ℕ} {v : View} (w : Seen h v) (first m : ℕ) {place last : ℕ} (l : EntriesLeft h v first place) (b : Parted (addresses h v) (first + m * page_size v) last last) where
   pub last_within : last ≤ v.index.entries
   last_within = omega (arith, b.within, length_addresses h v)
 
-  module _ (more : place < last) {t : Bool} (f : t ≡ unowned own h v (get_or (addresses h v) place 0)) where
-    pub entries-fault : first % page_size v ≡ 0 → t ≡ true → true ≡ pages_wrong own h (page_size v) (entries_in h v.index) (pages_from (page_size v) first m)
+  module _ (more : place < last) {t : Bool} (f : t ≡ unowned_wrong h v (get_or (addresses h v) place 0)) where
+    pub entries-fault : first % page_size v ≡ 0 → t ≡ true → true ≡ unowned_pages_wrong h v (pages_from (page_size v) first m)
     entries-fault z g =
         let x = get_or (addresses h v) place 0 in
         let low : first ≤ x = l.left place (omega arith) (omega (arith, b.within)) in
         let high : x < first + m * page_size v = b.below place more in
         let s : first + (x / page_size v - first / page_size v) * page_size v ≡ x = pages_apart (page_size v) first x (omega (arith, w.least)) z (w.multiple place (omega (arith, last_within))) low in
         let j : x / page_size v - first / page_size v < m = lt_of_mul-lt-mul_right (page_size v) (omega arith) in
-        sym (wrong_one own h v first m (x / page_size v - first / page_size v) j (rw s (sym f ∙ g)))
+        sym (wrong_one h v first m (x / page_size v - first / page_size v) j (rw s (sym f ∙ g)))
 
-    pub entries_turn : t ≡ false → EntriesLeft own h v first (place + 1)
-    entries_turn g = record { fine = below_more _ _ l.fine (λ q. sym f ∙ g); left = λ k q r. l.left k (omega arith) r }
-
-  pub entries-end : last ≤ place → false ≡ pages_wrong own h (page_size v) (entries_in h v.index) (pages_from (page_size v) first m)
-  entries-end q = sym (wrong-none own h v first m (λ j r. ⊎_elim (λ e. there j r e) (missing_fine own h v (first + j * page_size v)) (either (has_page (entries_in h v.index) (first + j * page_size v)))))
+  pub entries-end : last ≤ place → false ≡ unowned_pages_wrong h v (pages_from (page_size v) first m)
+  entries-end q = sym (wrong-none h v first m (λ j r. ⊎_elim (λ e. there j r e) (missing_fine h v (first + j * page_size v)) (either (has_page (entries_in h v.index) (first + j * page_size v)))))
     where
-      there : (j : ℕ) → j < m → has_page (entries_in h v.index) (first + j * page_size v) ≡ true → unowned own h v (first + j * page_size v) ≡ false
+      there : (j : ℕ) → j < m → has_page (entries_in h v.index) (first + j * page_size v) ≡ true → unowned_wrong h v (first + j * page_size v) ≡ false
       there j r e =
           let k = place_of (first + j * page_size v) (addresses h v) in
           let c : k < length (addresses h v) = ltb-true _ _ e in

@@ -1,9 +1,9 @@
 -- The bytes of a view, page by page.
-use mathlib.Core.Path.{◌≡◌, sym, ap, ◌∙◌}
+use mathlib.Core.Path.{◌≡◌, refl, sym, ap, ◌∙◌}
 use mathlib.Core.Bool.{cond}
 use mathlib.Core.List.{List}
-use Prim.Native.Nat.{ℕ, suc, ◌+◌, ◌*◌, ◌-◌, ◌%◌, ◌≤◌, ◌<◌}
-use native.Mathlib.Nat.{zero-add, add_assoc, mul-le-mul_right, suc-mul}
+use Prim.Native.Nat.{ℕ, zero, suc, ◌+◌, ◌-◌, ◌%◌, ◌≤◌, ◌<◌, min}
+use native.Mathlib.Nat.{zero-add, add_assoc}
 use native.Mathlib.Omega.{arith}
 use lib.ListN.{length, take, drop, get_or, replicate, get_or-eq_default}
 use Rattle.rules.specs.Bytes.{byte_at, part, laid, tabulate}
@@ -20,35 +20,30 @@ use Rattle.rules.proofs.Bytes.{
   tabulate-append,
   tabulate-same,
   part-tabulate,
+  slice-part,
   tabulate_zeros,
 }
 use Rattle.rules.proofs.Range.{page_of_lem, page-there, entry-there}
-use Rattle.view.specs.Seen.{Seen, original_byte}
-use Rattle.view.specs.declared.View.{View}
-use Rattle.view.proofs.Pages.{page_size}
+use Rattle.view.specs.Seen.{original_byte}
 
 -- ---- The original
 
-module _ (o x0 : List ℕ) (to from n : ℕ) where
-  -- All past the original's end.
-  pub original_past : {x1 : List ℕ} → length o ≤ from → x1 ≡ laid x0 to (replicate n 0) → x1 ≡ laid x0 to (tabulate n (original_byte o from))
-  original_past h e = e ∙ ap (laid x0 to) (tabulate_zeros (original_byte o from) n (λ j l. get_or-eq_default o 0 (omega arith)))
-
-  -- All of it there.
-  pub original-there : {x1 : List ℕ} → from + n ≤ length o → x1 ≡ laid x0 to (take (from + n - from) (drop from o)) → x1 ≡ laid x0 to (tabulate n (original_byte o from))
-  original-there h e = let q : from + n - from ≡ n = omega arith in e ∙ ap (laid x0 to) (rw q (part-tabulate o from n h))
-
-  -- Some there, and zeros behind.
-  pub original-ends : {x1 x2 : List ℕ} (m : ℕ) → m ≡ length o - from → m < n → from < length o → to + n ≤ length x0
-      → x1 ≡ laid x0 to (take (length o - from) (drop from o)) → x2 ≡ laid x1 (to + m) (replicate (n - m) 0)
-      → x2 ≡ laid x0 to (tabulate n (original_byte o from))
-  original-ends {x1} {x2} m em l k h e f =
-      let a : x1 ≡ laid x0 to (tabulate m (original_byte o from)) = e ∙ ap (laid x0 to) (rw (← em) (part-tabulate o from m (omega arith))) in
-      let b : x2 ≡ laid x1 (to + m) (tabulate (n - m) (λ j. original_byte o from (m + j))) =
-      f ∙ ap (laid x1 (to + m)) (tabulate_zeros (λ j. original_byte o from (m + j)) (n - m) (λ j q. get_or-eq_default o 0 (omega arith))) in
-      let c : m + (n - m) ≡ n = omega arith in
-      laid_then x0 x1 x2 _ _ to (to + m) a b (rw (length-tabulate m (original_byte o from))) (omega arith)
-      ∙ ap (laid x0 to) (sym (tabulate-append m (n - m) (original_byte o from)) ∙ rw c)
+-- What the original has of n bytes from an offset, and zeros behind.
+pub original_laid : (o x0 : List ℕ) (to from n : ℕ) {start there : ℕ} {x1 x2 : List ℕ} → start ≡ min from (length o) → there ≡ min n (length o - start) → to + n ≤ length x0
+    → x1 ≡ laid x0 to (take (start + there - start) (drop start o)) → x2 ≡ laid x1 (to + there) (replicate (n - there) 0)
+    → x2 ≡ laid x0 to (tabulate n (original_byte o from))
+unfolding tabulate
+original_laid o x0 to from n {start} {there} {x1} {x2} es et h e f =
+    let a : x1 ≡ laid x0 to (tabulate there (original_byte o from)) = e ∙ ap (laid x0 to) (slice-part o start there ∙ run there refl) in
+    let b : x2 ≡ laid x1 (to + there) (tabulate (n - there) (λ j. original_byte o from (there + j))) =
+    f ∙ ap (laid x1 (to + there)) (tabulate_zeros (λ j. original_byte o from (there + j)) (n - there) (λ j q. get_or-eq_default o 0 (omega arith))) in
+    let c : there + (n - there) ≡ n = omega arith in
+    laid_then x0 x1 x2 _ _ to (to + there) a b (rw (length-tabulate there (original_byte o from))) (omega arith)
+    ∙ ap (laid x0 to) (sym (tabulate-append there (n - there) (original_byte o from)) ∙ rw c)
+  where
+    run : (k : ℕ) → there ≡ k → part o start k ≡ tabulate k (original_byte o from)
+    run zero z = refl
+    run (suc k) z = let s : start ≡ from = omega arith in rw s (part-tabulate o from (suc k) (omega arith))
 
 -- ---- One page
 
@@ -108,14 +103,6 @@ module _ {f : ℕ → ℕ} {before now : List ℕ} {done : ℕ} (l : ShownSoFar 
   shown-end h =
       let q : done ≡ length before = omega (arith, l.within) in
       l.bytes ∙ rw q (laid_whole before (tabulate (length before) f) (length-tabulate (length before) f))
-
--- A part of a slice that is named by its ends.
-pub stored_run : (x0 h : List ℕ) (to from n : ℕ) {x1 : List ℕ} → x1 ≡ laid x0 to (take (from + n - from) (drop from h)) → x1 ≡ laid x0 to (part h from n)
-stored_run x0 h to from n e = let q : from + n - from ≡ n = omega arith in e ∙ rw q
-
--- An own page lies in the history.
-pub own_room : {h : List ℕ} {v : View} → Seen h v → (mine : ℕ) → mine < v.own → v.end + mine * page_size v + page_size v ≤ length h
-own_room {h} {v} w mine l = let q : suc mine * page_size v ≤ v.own * page_size v = mul-le-mul_right (page_size v) l in omega (arith, w.owned, suc-mul mine (page_size v))
 
 -- The bytes from a further offset on.
 pub shown_further : (o h : List ℕ) (x : Index) (from done some : ℕ) → tabulate some (revision o h x (from + done)) ≡ tabulate some (λ j. revision o h x from (done + j))

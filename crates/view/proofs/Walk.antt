@@ -7,16 +7,16 @@ use native.Mathlib.Nat.{div-add-mod', mod-lt, eq-or-lt_of_le, add-zero, add_asso
 use native.Mathlib.Omega.{arith}
 use lib.ListN.{length, get_or}
 use Rattle.rules.specs.Bytes.{part, laid, tabulate}
-use Rattle.rules.specs.Layout.{entries_in}
+use Rattle.rules.specs.Layout.{entries_width, entry_at, entries_in}
 use Rattle.rules.specs.View.{place_of, logicals, page_of, revision_byte}
 use Rattle.rules.specs.declared.Index.{Index}
 use Rattle.rules.specs.declared.Entry.{Entry}
 use Rattle.rules.proofs.Bytes.{tabulate-same}
-use Rattle.rules.proofs.Entries.{logical_entries, has-nowhere, place_hit, order}
+use Rattle.rules.proofs.Entries.{has-nowhere, place_hit, order}
 use Rattle.rules.proofs.Range.{page-at, page-multiple, multiples}
 use Rattle.index.specs.Places.{Parted}
 use Rattle.view.specs.Seen.{Seen, original_byte}
-use Rattle.view.specs.Places.{NextEntry}
+use Rattle.view.specs.Places.{NextStored}
 use Rattle.view.specs.declared.View.{View}
 use Rattle.view.proofs.Pages.{page_size, addresses, length_addresses, entry-room}
 use Rattle.view.proofs.Shown.{revision, shown-stored, ShownSoFar, shown-start, shown_turn, shown_further}
@@ -41,62 +41,56 @@ module _ {h : List ℕ} {v : View} (w : Seen h v) where
     above = λ k l m. omega (arith, b.above k l m, div-add-mod' from (page_size v), lies-inside from);
   }
 
-  module _ (at : ℕ) {place end : ℕ} {e : Entry} (g : Ahead (addresses h v) (page_size v) at place) (n : NextEntry h v.index place end e) where
-    next_value : place < v.index.entries → get_or (addresses h v) place 0 ≡ e.logical
-    next_value l = logical_entries v.index.form h v.index.at v.index.entries place l ∙ ap (λ (y : Entry). y.logical) (sym (n.there l))
-
-    behind_too : (k : ℕ) → place ≤ k → k < length (addresses h v) → e.logical ≤ get_or (addresses h v) k 0
+  module _ (at : ℕ) {place end next : ℕ} (g : Ahead (addresses h v) (page_size v) at place) (n : NextStored h v.index place end next) where
+    behind_too : (k : ℕ) → place ≤ k → k < length (addresses h v) → next ≤ get_or (addresses h v) k 0
     behind_too k l m =
         let there : place < v.index.entries = omega (arith, length_addresses h v) in
-        ⊎_elim (λ (z : place ≡ k). rw (← z) (omega (arith, next_value there))) (λ (z : place < k). omega (arith, w.rising place k z m, next_value there)) (eq-or-lt_of_le l)
+        ⊎_elim (λ (z : place ≡ k). rw (← z) (omega (arith, n.there there))) (λ (z : place < k). omega (arith, w.rising place k z m, n.there there)) (eq-or-lt_of_le l)
 
     -- The entry's page is the one that the offset lies in.
-    module _ (inside : e.logical ≤ at) (short : at < end) where
+    module _ (inside : next ≤ at) (short : at < end) where
       there : place < v.index.entries
       there = ⊎_elim (λ l. l) (λ q. absurd (omega (arith, n.none (⊎_elim (λ r. omega arith) (λ r. omega arith) q)))) (order place v.index.entries)
 
       within : place < length (addresses h v)
       within = rw (length_addresses h v) there
 
-      near : at < e.logical + page_size v
-      near = omega (arith, g.above place (omega arith) within, next_value there)
+      near : at < next + page_size v
+      near = omega (arith, g.above place (omega arith) within, n.there there)
 
-      room : e.physical + page_size v ≤ length h
-      room = entry-room h v w place there (n.there there)
-
-      its-page : (page_of (page_size v) at ≡ e.logical) × (at % page_size v ≡ at - e.logical)
+      its-page : (page_of (page_size v) at ≡ next) × (at % page_size v ≡ at - next)
       its-page =
-          let z : e.logical % page_size v ≡ 0 = rw (← next_value there) (multiple place within) in
-          let s : e.logical + (at - e.logical) ≡ at = omega arith in
-          rw s at (page-at (page_size v) e.logical (at - e.logical) z (omega (arith, near)))
+          let z : next % page_size v ≡ 0 = rw (n.there there) (multiple place within) in
+          let s : next + (at - next) ≡ at = omega arith in
+          rw s at (page-at (page_size v) next (at - next) z (omega (arith, near)))
 
-      hit-bytes : (o : List ℕ) (m : ℕ) → at - e.logical + m ≤ page_size v → part h (e.physical + (at - e.logical)) m ≡ tabulate m (revision o h v.index at)
-      hit-bytes o m l =
+      hit-bytes : (o : List ℕ) (m : ℕ) {e : Entry} → e ≡ entry_at v.index.form h (v.index.at + entries_width v.index.form place) → at - next + m ≤ page_size v → part h (e.physical + (at - next)) m ≡ tabulate m (revision o h v.index at)
+      hit-bytes o m q l =
           let r = its-page.1 in
           let f : place ≡ place_of (page_of (page_size v) at) (addresses h v) =
-          sym (place_hit (page_of (page_size v) at) (addresses h v) place within (next_value there ∙ sym its-page.0) (λ k i q. omega (arith, w.rising k place i within, next_value there, its-page.0))) in
-          rw (← r) (shown-stored o h v.index at m (omega (arith, w.least)) (omega arith) place f there (n.there there) (omega (arith, room)))
+          sym (place_hit (page_of (page_size v) at) (addresses h v) place within (sym (n.there there) ∙ sym its-page.0) (λ k i q. omega (arith, w.rising k place i within, n.there there, its-page.0))) in
+          rw (← r) (shown-stored o h v.index at m (omega (arith, w.least)) (omega arith) place f there q (omega (arith, entry-room h v w place there q)))
 
-      hit_turn : (some : ℕ) → at + some ≡ e.logical + page_size v → Ahead (addresses h v) (page_size v) (at + some) (place + 1)
+      hit_turn : (some : ℕ) → at + some ≡ next + page_size v → Ahead (addresses h v) (page_size v) (at + some) (place + 1)
       hit_turn some q = record {
-        below = λ k l m. ⊎_elim (λ (z : k ≡ place). rw z (omega (arith, next_value there))) (λ (z : k < place). omega (arith, g.below k z m)) (eq-or-lt_of_le (omega arith));
+        below = λ k l m. ⊎_elim (λ (z : k ≡ place). rw z (omega (arith, n.there there))) (λ (z : k < place). omega (arith, g.below k z m)) (eq-or-lt_of_le (omega arith));
         above = λ k l m.
-            omega (arith, multiples (page_size v) _ _ (multiple place within) (multiple k m) (w.rising place k (omega arith) m), next_value there, w.least);
+            omega (arith, multiples (page_size v) _ _ (multiple place within) (multiple k m) (w.rising place k (omega arith) m), n.there there, w.least);
       }
 
     -- Its page lies behind the offset.
-    module _ (behind : at < e.logical) where
-      nowhere : (i k : ℕ) → at ≤ i → i < e.logical → k < length (addresses h v) → get_or (addresses h v) k 0 ≡ page_of (page_size v) i → ⊥
+    module _ (behind : at < next) where
+      nowhere : (i k : ℕ) → at ≤ i → i < next → k < length (addresses h v) → get_or (addresses h v) k 0 ≡ page_of (page_size v) i → ⊥
       nowhere i k l m r q = ⊎_elim
           (λ (z : k < place). omega (arith, g.below k z r, div-add-mod' i (page_size v), lies-inside i))
           (λ z. omega (arith, behind_too k (⊎_elim (λ y. omega arith) (λ y. omega arith) z) r, div-add-mod' i (page_size v)))
           (order k place)
 
-      run-bytes : (o : List ℕ) (m : ℕ) → at + m ≤ e.logical → tabulate m (original_byte o at) ≡ tabulate m (revision o h v.index at)
+      run-bytes : (o : List ℕ) (m : ℕ) → at + m ≤ next → tabulate m (original_byte o at) ≡ tabulate m (revision o h v.index at)
       unfolding revision_byte
       run-bytes o m l = tabulate-same m _ _ (λ j i. rw (has-nowhere (addresses h v) (page_of (page_size v) (at + j)) (λ k r q. nowhere (at + j) k (omega arith) (omega arith) r q)))
 
-      run_turn : (some : ℕ) → at + some ≡ e.logical → Ahead (addresses h v) (page_size v) (at + some) place
+      run_turn : (some : ℕ) → at + some ≡ next → Ahead (addresses h v) (page_size v) (at + some) place
       run_turn some q = record {
         below = λ k l m. omega (arith, g.below k l m);
         above = λ k l m. omega (arith, behind_too k l m, w.least);
@@ -113,24 +107,24 @@ pub walked_start : (o : List ℕ) {h : List ℕ} {v : View} (w : Seen h v) (from
     → Walked o h v.index from before before place 0
 walked_start o w from before b = record { so_far = shown-start _ _; ahead = λ l. rw add-zero (walk_start w from b) }
 
-module _ {o h : List ℕ} {v : View} {from : ℕ} {before now : List ℕ} {place done end : ℕ} {e : Entry} (w : Seen h v) (l : Walked o h v.index from before now place done)
-    (more : done < length before) (n : NextEntry h v.index place end e) where
-  -- A page that the next byte lies in is there, is near, and lies in the history.
-  pub hit-page : e.logical ≤ from + done → from + done < end
-      → (place < v.index.entries) × (from + done < e.logical + page_size v) × (e.physical + page_size v ≤ length h)
-  hit-page i s = let g = l.ahead more in (there w (from + done) g n i s, near w (from + done) g n i s, room w (from + done) g n i s)
+module _ {o h : List ℕ} {v : View} {from : ℕ} {before now : List ℕ} {place done end next : ℕ} (w : Seen h v) (l : Walked o h v.index from before now place done)
+    (more : done < length before) (n : NextStored h v.index place end next) where
+  -- A page that the next byte lies in is there, and is near.
+  pub hit-page : next ≤ from + done → from + done < end → (place < v.index.entries) × (from + done < next + page_size v)
+  hit-page i s = let g = l.ahead more in (there w (from + done) g n i s, near w (from + done) g n i s)
 
-  pub walked_hit : e.logical ≤ from + done → from + done < end → {some : ℕ} {after : List ℕ} → some ≡ min (page_size v - (from + done - e.logical)) (length before - done)
-      → after ≡ laid now done (part h (e.physical + (from + done - e.logical)) some) → Walked o h v.index from before after (place + 1) (done + some)
-  walked_hit i s {some} {after} m f =
+  pub walked_hit : next ≤ from + done → from + done < end → {e : Entry} → e ≡ entry_at v.index.form h (v.index.at + entries_width v.index.form place)
+      → {some : ℕ} {after : List ℕ} → some ≡ min (page_size v - (from + done - next)) (length before - done)
+      → after ≡ laid now done (part h (e.physical + (from + done - next)) some) → Walked o h v.index from before after (place + 1) (done + some)
+  walked_hit i s q {some} {after} m f =
       let g = l.ahead more in
       let close = near w (from + done) g n i s in
       record {
-        so_far = shown_turn l.so_far some (omega arith) (f ∙ ap (laid now done) (hit-bytes w (from + done) g n i s o some (omega arith) ∙ shown_further o h v.index from done some));
+        so_far = shown_turn l.so_far some (omega arith) (f ∙ ap (laid now done) (hit-bytes w (from + done) g n i s o some q (omega arith) ∙ shown_further o h v.index from done some));
         ahead = λ k. rw (← add_assoc from done some) (hit_turn w (from + done) g n i s some (omega arith));
       }
 
-  pub walked_run : from + done < e.logical → {some : ℕ} {after : List ℕ} → some ≡ min (e.logical - (from + done)) (length before - done)
+  pub walked_run : from + done < next → {some : ℕ} {after : List ℕ} → some ≡ min (next - (from + done)) (length before - done)
       → after ≡ laid now done (tabulate some (original_byte o (from + done))) → Walked o h v.index from before after place (done + some)
   walked_run b {some} {after} m f =
       let g = l.ahead more in

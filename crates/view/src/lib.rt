@@ -2,23 +2,23 @@
 // that has touched no page.
 #![tactic(auto)]
 
-ghost use Rattle.std.specs.Prelude.{◌≡◌, not, ◌&&◌, ◌+◌, ◌*◌, ◌%◌, ◌^◌, ◌≤◌, ◌<◌, length, take, get_or};
+ghost use Rattle.std.specs.Prelude.{◌≡◌, ◌+◌, ◌*◌, ◌%◌, ◌^◌, ◌≤◌, ◌<◌, length, get_or};
 ghost use Rattle.rules.specs.Bytes.{part, laid, tabulate};
 ghost use Rattle.rules.specs.Layout.{limit, entries_width, entries_in};
-ghost use Rattle.rules.specs.View.{has, logicals, revision_bytes, pages_from, pages_in, pages_shared};
-ghost use Rattle.rules.specs.Rows.{page_wrong, pages_wrong};
+ghost use Rattle.rules.specs.View.{logicals, revision_bytes, pages_from, pages_in, pages_shared};
+ghost use Rattle.rules.specs.Rows.{page_wrong};
 ghost use Rattle.layout.specs.Paged.{farthest};
-ghost use Rattle.view.specs.Seen.{Seen, original_byte, shown};
-ghost use Rattle.view.specs.Places.{NextEntry, own_over};
+ghost use Rattle.view.specs.Seen.{Seen, unowned_wrong, unowned_pages_wrong, original_byte, shown};
+ghost use Rattle.view.specs.Places.{NextStored, own_over};
 
-use rules::{Entry, Index};
+use rules::Index;
 
-// Where things stand: the index of a revision, and behind an end the pages of a session's own.
+// Where things stand: the index of a revision, and behind an end the pages of a session's own, by their addresses.
 #[derive(Clone, Copy)]
-pub struct View {
+pub struct View<'a> {
     pub index: Index,
     pub end: usize,
-    pub own: usize,
+    pub own: &'a [u32],
 }
 
 // ---- Whether pages are whole
@@ -26,53 +26,44 @@ pub struct View {
 // Whether the index has a page, and the page's checksum is wrong.
 pub fn page_wrong(history: &[u8], v: View, address: u64) -> bool
     requires { Seen history.now v }
-    ensures { result ≡ page_wrong history.now v.index.form.page (entries_in history.now v.index) address }
+    ensures { result ≡ page_wrong history.now v.entry.index.form.page (entries_in history.now v.entry.index) address }
 {
     let x = v.index;
-    let place = index::find(history, x, address);
-    if x.entries <= place {
+    let Some(place) = index::find(history, x, address) else {
         return false;
-    }
+    };
     let e = index::entry(history, x, place);
     parts::page_sum_wrong(history, x.form.page, e)
 }
 
 // The same of the page of the entry at a place, if it is none of the session's own: neither its own pages nor what they replace
 // counts. A small page is summed sooner than it is looked for among many, and few sums are wrong.
-fn unowned_wrong(history: &[u8], v: View, pages: &[u32], place: usize) -> bool
-    requires { (Seen history.now v) × (v.own ≤ length pages.now) × (place < v.index.entries) }
-    ensures { result ≡ not (has (take v.own pages.now) (get_or (logicals (entries_in history.now v.index)) place 0))
-        && page_wrong history.now v.index.form.page (entries_in history.now v.index) (get_or (logicals (entries_in history.now v.index)) place 0) }
+fn unowned_wrong(history: &[u8], v: View, place: usize) -> bool
+    requires { (Seen history.now v) × (place < v.index.entries) }
+    ensures { result ≡ unowned_wrong history.now v.entry (get_or (logicals (entries_in history.now v.entry.index)) place 0) }
 {
     let x = v.index;
     let page = x.form.page;
-    let own = v.own;
     let e = index::entry(history, x, place);
-    if page < own as u64 {
-        if !parts::page_sum_wrong(history, page, e) {
-            return false;
-        }
-    }
-    if index::own_place(pages, own, e.logical) < own {
+    if page < v.own.len() as u64 && !parts::page_sum_wrong(history, page, e) {
         return false;
     }
-    parts::page_sum_wrong(history, page, e)
+    index::own_place(v.own, e.logical).is_none() && parts::page_sum_wrong(history, page, e)
 }
 
 // The same of any of m pages from an address on. The entries of these pages stand together, so no page is searched for.
-fn pages_wrong(history: &[u8], v: View, pages: &[u32], first: u64, m: usize) -> bool
-    requires { (Seen history.now v) × (v.own ≤ length pages.now) × (first + m * v.index.form.page ≤ farthest) × (first % v.index.form.page ≡ 0) }
-    ensures { result ≡ pages_wrong (take v.own pages.now) history.now v.index.form.page (entries_in history.now v.index) (pages_from v.index.form.page first m) }
+fn pages_wrong(history: &[u8], v: View, first: u64, m: usize) -> bool
+    requires { (Seen history.now v) × (first + m * v.index.form.page ≤ farthest) × (first % v.index.form.page ≡ 0) }
+    ensures { result ≡ unowned_pages_wrong history.now v.entry (pages_from v.entry.index.form.page first m) }
 {
     let x = v.index;
     let end = first + m as u64 * x.form.page;
+    let start = index::place_from(history, x, first);
     let last = index::place_from(history, x, end);
-    let mut place = index::place_from(history, x, first);
-    while place < last {
-        if unowned_wrong(history, v, pages, place) {
+    for place in start..last {
+        if unowned_wrong(history, v, place) {
             return true;
         }
-        place += 1;
     }
     false
 }
@@ -89,13 +80,13 @@ pub fn pages_in(page: usize, at: usize, n: usize) -> usize
 }
 
 // Whether any indexed page that n bytes from an offset share a byte with is damaged, but for the session's own.
-pub fn range_wrong(history: &[u8], v: View, pages: &[u32], at: usize, n: usize) -> bool
-    requires { (Seen history.now v) × (v.own ≤ length pages.now) × (at + n ≤ limit) }
-    ensures { result ≡ pages_wrong (take v.own pages.now) history.now v.index.form.page (entries_in history.now v.index) (pages_shared v.index.form.page at n) }
+pub fn range_wrong(history: &[u8], v: View, at: usize, n: usize) -> bool
+    requires { (Seen history.now v) × (at + n ≤ limit) }
+    ensures { result ≡ unowned_pages_wrong history.now v.entry (pages_shared v.entry.index.form.page at n) }
 {
     let page = v.index.form.page as usize;
     let m = pages_in(page, at, n);
-    pages_wrong(history, v, pages, (at / page * page) as u64, m)
+    pages_wrong(history, v, (at / page * page) as u64, m)
 }
 
 // ---- The bytes
@@ -105,18 +96,9 @@ pub fn put_original(out: &mut [u8], to: usize, original: &[u8], from: usize, n: 
     requires { to + n ≤ length out.old }
     ensures { out.new ≡ laid out.old to (tabulate n (original_byte original.now from)) }
 {
-    let length = original.len();
-    if length <= from {
-        runs::put_zeros(out, to, n);
-        return;
-    }
-    let there = length - from;
-    if n <= there {
-        let end = from + n;
-        runs::put_run(out, to, &original[from..end]);
-        return;
-    }
-    runs::put_run(out, to, &original[from..length]);
+    let start = from.min(original.len());
+    let there = n.min(original.len() - start);
+    runs::put_run(&mut *out, to, &original[start..start + there]);
     runs::put_zeros(out, to + there, n - there);
 }
 
@@ -125,22 +107,18 @@ fn put_stored(out: &mut [u8], to: usize, history: &[u8], from: usize, n: usize)
     requires { (to + n ≤ length out.old) × (from + n ≤ length history.now) }
     ensures { out.new ≡ laid out.old to (part history.now from n) }
 {
-    let end = from + n;
-    runs::put_run(out, to, &history[from..end]);
+    runs::put_run(out, to, &history[from..from + n]);
 }
 
-// The entry at a place; past the last, one that stands at the end, where nothing is looked for any more.
-fn next_entry(history: &[u8], x: Index, place: usize, end: usize) -> Entry
+// The address of the stored page at a place of the index; past the last the end, where nothing is looked for any more.
+fn next_stored(history: &[u8], x: Index, place: usize, end: usize) -> usize
     requires { x.at + entries_width x.form x.entries ≤ length history.now }
-    ensures { NextEntry history.now x place end result }
+    ensures { NextStored history.now x place end result }
 {
     if place < x.entries {
-        return index::entry(history, x, place);
-    }
-    Entry {
-        logical: end as u64,
-        physical: 0,
-        checksum: 0,
+        index::logical(history, x, place) as usize
+    } else {
+        end
     }
 }
 
@@ -148,18 +126,19 @@ fn next_entry(history: &[u8], x: Index, place: usize, end: usize) -> Entry
 // stored page is one run of the original.
 fn put_revision(out: &mut [u8], original: &[u8], history: &[u8], v: View, from: usize)
     requires { (Seen history.now v) × (from + length out.old ≤ limit) }
-    ensures { out.new ≡ revision_bytes original.now history.now v.index.form.page (entries_in history.now v.index) from (length out.old) }
+    ensures { out.new ≡ revision_bytes original.now history.now v.entry.index.form.page (entries_in history.now v.entry.index) from (length out.old) }
 {
     let x = v.index;
     let page = x.form.page as usize;
     let n = out.len();
     let mut place = index::place_from(history, x, (from / page * page) as u64);
     let mut done: usize = 0;
+    // By hand: a step is as long as a run or what is left of a page, so it is not one.
     while done < n {
         let at = from + done;
-        let e = next_entry(history, x, place, from + n);
-        let next = e.logical as usize;
+        let next = next_stored(history, x, place, from + n);
         if next <= at {
+            let e = index::entry(history, x, place);
             let inside = at - next;
             let some = numbers::least(page - inside, n - done);
             put_stored(&mut *out, done, history, e.physical as usize + inside, some);
@@ -199,23 +178,14 @@ fn put_own(out: &mut [u8], history: &[u8], page: usize, address: usize, stored: 
 
 // Fills a buffer with the bytes that the view shows from an offset on: the revision's, and over them the session's own pages. The
 // first of them comes last, since it is the one that a search would find.
-pub fn put_view(
-    out: &mut [u8],
-    original: &[u8],
-    history: &[u8],
-    v: View,
-    pages: &[u32],
-    from: usize,
-)
-    requires { (Seen history.now v) × (v.own ≤ length pages.now) × (from + length out.old ≤ limit) }
-    ensures { out.new ≡ tabulate (length out.old) (shown original.now history.now v (take v.own pages.now) from) }
+pub fn put_view(out: &mut [u8], original: &[u8], history: &[u8], v: View, from: usize)
+    requires { (Seen history.now v) × (from + length out.old ≤ limit) }
+    ensures { out.new ≡ tabulate (length out.old) (shown original.now history.now v.entry from) }
 {
     put_revision(&mut *out, original, history, v, from);
     let page = v.index.form.page as usize;
-    let mut mine = v.own;
-    while 0 < mine {
-        mine -= 1;
-        let address = pages[mine] as usize;
+    for mine in (0..v.own.len()).rev() {
+        let address = v.own[mine] as usize;
         put_own(&mut *out, history, page, address, v.end + mine * page, from);
     }
 }

@@ -64,9 +64,9 @@ fn write_rows(st: State, history: &[u8], s: Setting, r: Record, at: u64, n: usiz
     let v = View {
         index: records::index_in(s, r),
         end: st.end as usize,
-        own: st.n as usize,
+        own: &st.pages[..st.n as usize],
     };
-    if view::range_wrong(history, v, &st.pages, at as usize, n) {
+    if view::range_wrong(history, v, at as usize, n) {
         return 9;
     }
     0

@@ -12,7 +12,7 @@ returns-then-judged-ne0 c =
 pub found_in-requires : goal.found_in-requires
 found_in-requires c =
     let w = c.judge-judged.ensures.standing c.if-judged-ne0.false in
-    (view_seen w c.index_in.ensures 0 0 (omega arith), w.right.small)
+    (view_seen w c.index_in.ensures (omega arith), w.right.small)
 
 pub returns : goal.returns
 returns c =

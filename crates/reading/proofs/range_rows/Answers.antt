@@ -12,7 +12,7 @@ pub range_wrong-requires : goal.range_wrong-requires
 range_wrong-requires c =
     let p = c.requires in
     let a = c.args in
-    (p.0, p.1, omega (arith, inside_fits a.size a.at a.n (sym c.read_outside.ensures ∙ c.if-read_outside.false), p.2))
+    (p.0, omega (arith, inside_fits a.size a.at a.n (sym c.read_outside.ensures ∙ c.if-read_outside.false), p.1))
 
 pub returns-then-range_wrong : goal.returns-then-range_wrong
 returns-then-range_wrong c = record { number = row_past 10 _ c.read_outside.ensures c.if-read_outside.false (last-holds 9 c.range_wrong.ensures c.if-range_wrong.true); inside = λ z. absurd (omega arith) }

@@ -15,7 +15,7 @@ returns-then-judged-ne0 c =
 pub range_rows-number-requires : goal.range_rows-number-requires
 range_rows-number-requires c =
     let w = c.judge-judged.ensures.standing c.if-judged-ne0.false in
-    (view_seen w c.index_in.ensures 0 0 (omega arith), omega arith, w.right.small)
+    (view_seen w c.index_in.ensures (omega arith), w.right.small)
 
 pub returns-then-number-ne0 : goal.returns-then-number-ne0
 returns-then-number-ne0 c =
@@ -28,7 +28,7 @@ returns-then-number-ne0 c =
 pub put_view-requires : goal.put_view-requires
 put_view-requires c =
     let w = c.judge-judged.ensures.standing c.if-judged-ne0.false in
-    (view_seen w c.index_in.ensures 0 0 (omega arith), omega arith, omega (arith, c.range_rows-number.ensures.inside c.if-number-ne0.false, w.right.small))
+    (view_seen w c.index_in.ensures (omega arith), omega (arith, c.range_rows-number.ensures.inside c.if-number-ne0.false, w.right.small))
 
 pub returns : goal.returns
 returns c =

@@ -1,5 +1,6 @@
 -- Judged once; then the rows and the bytes of the session's view.
 use native.Mathlib.Omega.{arith}
+use Rattle.rules.proofs.Range.{own-length}
 use Rattle.reading.proofs.Seen.{view_seen}
 use Rattle.session_reading.proofs.Steps.{read_refused, begin_refused, rows_behind_lem, read_done}
 use Rattle.session_reading.proofs.session_read.Goals as goal
@@ -13,7 +14,7 @@ returns-then-judged-ne0 c =
 pub range_rows-number-requires : goal.range_rows-number-requires
 range_rows-number-requires c =
     let w = c.judge-judged.ensures.sound c.if-judged-ne0.false in
-    (view_seen w.parent c.index_in.ensures _ _ w.room, omega (arith, w.touched), w.small)
+    (view_seen w.parent c.index_in.ensures (rw (own-length c.args.st (omega (arith, w.touched))) w.room), w.small)
 
 pub returns-then-number-ne0 : goal.returns-then-number-ne0
 returns-then-number-ne0 c =
@@ -25,7 +26,7 @@ returns-then-number-ne0 c =
 pub put_view-requires : goal.put_view-requires
 put_view-requires c =
     let w = c.judge-judged.ensures.sound c.if-judged-ne0.false in
-    (view_seen w.parent c.index_in.ensures _ _ w.room, omega (arith, w.touched), omega (arith, c.range_rows-number.ensures.inside c.if-number-ne0.false, w.small))
+    (view_seen w.parent c.index_in.ensures (rw (own-length c.args.st (omega (arith, w.touched))) w.room), omega (arith, c.range_rows-number.ensures.inside c.if-number-ne0.false, w.small))
 
 pub returns : goal.returns
 returns c =

@@ -1,26 +1,19 @@
 -- The entries between the two places are those of the pages; the ones passed are fine.
 use Prim.Native.Nat.{◌≤◌}
 use native.Mathlib.Omega.{arith}
-use Rattle.view.proofs.Pages.{entries-start, last_within, entries-fault, entries_turn, entries-end}
+use Rattle.view.proofs.Pages.{last_within, entries-fault, entries-end}
 use Rattle.view.proofs.pages_wrong.Goals as goal
 use Rattle.view.proofs.pages_wrong.Goals.{At-loop-place}
 
 within : (c : At-loop-place) → c.place_from-last.result ≤ c.args.v.index.entries
 within c = last_within c.requires.0 c.args.first c.args.m c.loop-place.invariant c.place_from-last.ensures
 
-pub loop-place-init : goal.loop-place-init
-loop-place-init c = entries-start _ _ c.args.v _ c.place_from-place.ensures
-
 pub unowned_wrong-requires : goal.unowned_wrong-requires
-unowned_wrong-requires c = (c.requires.0, c.requires.1, omega (arith, within (goal.at.unowned_wrong-requires c).At-loop-place))
+unowned_wrong-requires c = (c.requires.0, omega (arith, within (goal.at.unowned_wrong-requires c).At-loop-place))
 
 pub returns-then-unowned_wrong : goal.returns-then-unowned_wrong
 returns-then-unowned_wrong c =
-    entries-fault c.requires.0 c.args.first c.args.m c.loop-place.invariant c.place_from-last.ensures c.loop-place-test.true c.unowned_wrong.ensures c.requires.3 c.if-unowned_wrong.true
-
-pub loop-place-preserved : goal.loop-place-preserved
-loop-place-preserved c =
-    entries_turn c.requires.0 c.args.first c.args.m c.loop-place.invariant c.place_from-last.ensures c.loop-place-test.true c.unowned_wrong.ensures c.if-unowned_wrong.false
+    entries-fault c.requires.0 c.args.first c.args.m c.loop-place.invariant c.place_from-last.ensures c.loop-place-test.true c.unowned_wrong.ensures c.requires.2 c.if-unowned_wrong.true
 
 pub returns : goal.returns
 returns c =

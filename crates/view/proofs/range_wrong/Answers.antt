@@ -6,4 +6,4 @@ use Rattle.view.proofs.range_wrong.Goals as goal
 pub pages_wrong-requires : goal.pages_wrong-requires
 pages_wrong-requires c =
     let w = c.requires.0 in
-    (w, c.requires.1, range-room _ c.args.at c.args.n c.pages_in-m.ensures c.requires.2 w.least w.most, page-multiple _ c.args.at)
+    (w, range-room _ c.args.at c.args.n c.pages_in-m.ensures c.requires.1 w.least w.most, page-multiple _ c.args.at)

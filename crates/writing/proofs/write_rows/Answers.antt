@@ -1,6 +1,7 @@
 -- One row after the other, in the order of the call.
 use mathlib.Core.Path.{sym, ◌∙◌}
 use native.Mathlib.Omega.{arith}
+use Rattle.rules.proofs.Range.{own-length}
 use Rattle.reading.proofs.Seen.{view_seen}
 use Rattle.writing.proofs.Steps.{near_enough, write_outside_lem, write_far, write-room, write_damaged, write_fine, writable}
 use Rattle.writing.proofs.write_rows.Goals as goal
@@ -28,7 +29,7 @@ returns-then-number-ne0 c =
 pub range_wrong-requires : goal.range_wrong-requires
 range_wrong-requires c =
     let w = c.requires in
-    (view_seen w.parent c.index_in.ensures _ _ w.room, omega (arith, w.touched), near_enough _ _ (sym c.write_too_far.ensures ∙ c.if-write_too_far.false))
+    (view_seen w.parent c.index_in.ensures (rw (own-length c.args.st (omega (arith, w.touched))) w.room), near_enough _ _ (sym c.write_too_far.ensures ∙ c.if-write_too_far.false))
 
 pub returns-then-range_wrong : goal.returns-then-range_wrong
 returns-then-range_wrong c =
