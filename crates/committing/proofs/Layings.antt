@@ -133,7 +133,7 @@ module _ {h : List ℕ} {s : Setting} {st : State} {parent r : Record} (q : Stan
         (λ i a m. rw (same-page i (omega (arith, length-take-le st.n st.pages l)))))
 
     pub mergeable : {x : Index} {to : ℕ} → x ≡ parents → to ≡ r.address + front_width s.form → st.n ≤ length st.pages
-        → Mergeable x1 x st.pages st.n st.end to
+        → Mergeable x1 x (own_pages st) st.end to
     unfolding index_in
     mergeable ex et l =
         let least = entry-least s.form in
@@ -143,10 +143,9 @@ module _ {h : List ℕ} {s : Setting} {st : State} {parent r : Record} (q : Stan
         (record {
           rising = rw same_index (index-rising h s parent right);
           summed = rw p1 (sums-laid (entry_width s.form) (entry_sum_at s.form) h r.address front fits (omega arith) (omega arith) parents.at parent.entries (omega (arith, ahead)) ∙ right.summed);
-          listed = l;
           distinct = q.session.differ;
           index-ahead = omega (arith, ahead);
-          pages-ahead = omega (arith, address_is);
+          pages-ahead = rw (length-take-le st.n st.pages l) (omega (arith, address_is));
           room = rw (count, long) (omega (arith, size_is, stored-room));
           short = rw long sound.short;
         })

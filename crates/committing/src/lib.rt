@@ -114,7 +114,7 @@ fn judge(st: State, history: &[u8], time: &[u8], name: &[u8], comment: &[u8]) ->
         return refused(held.number, setting, parent);
     }
     let x = records::index_in(setting, parent);
-    let entries = merge::merged_count(history, x, &st.pages, st.n as usize) as u64;
+    let entries = merge::merged_count(history, x, &st.pages[..st.n as usize]) as u64;
     if layout::ENTRIES < entries {
         return refused(14, setting, parent);
     }
@@ -154,7 +154,7 @@ fn put_indexed(history: &mut [u8], st: State, j: Judged, time: &[u8], user: u32)
     let x = records::index_in(s, j.parent);
     let to = r.address as usize + layout::front_width(form);
     records::put_front(history, form, r, time, user);
-    merge::put_merged(history, x, &st.pages, st.n as usize, st.end as usize, to);
+    merge::put_merged(history, x, &st.pages[..st.n as usize], st.end as usize, to);
 }
 
 // Name and comment behind the entries, and the checksum of the whole record behind them.

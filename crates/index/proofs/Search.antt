@@ -1,8 +1,8 @@
 -- The loops over places: the search by halves among addresses that rise, the one by blocks and then one by one among a session's pages,
 -- and whether these rise.
 use mathlib.Core.Path.{◌≡◌, refl, sym, ap, ◌∙◌}
-use mathlib.Core.Bool.{true, false, true≢false}
-use mathlib.Core.List.{List}
+use mathlib.Core.Bool.{Bool, true, false, ◌||◌, true≢false, or-false}
+use mathlib.Core.List.{List, [], ◌∷◌, ◌++◌}
 use mathlib.Core.Logic.{⊎_elim}
 use Prim.Native.Nat.{ℕ, suc, zero, ◌+◌, ◌-◌, ◌*◌, ◌/◌, ◌%◌, ◌≤◌, ◌<◌}
 use native.Mathlib.Nat.{eq-or-lt_of_le}
@@ -13,14 +13,13 @@ use denote.Ref.{Bor}
 use lib.Dec.{ltb}
 use lib.ListN.{length, take, drop, get_or, length-drop}
 use lib.Seq.{length-take-le, get_or-take, get_or-drop}
-use Rattle.std.specs.Prelude.{Option, None, Some, IfSome, IsSomeAnd, MatchOption, ◌==◌, nat_lt}
+use Rattle.std.specs.Prelude.{Option, None, Some, IfSome, ◌==◌, nat_lt}
 use Rattle.std.specs.List.{list_any, IsSubsliceAt, AllWithin, HoldsAt, AllAdjacentBelow}
 use Rattle.std.specs.List.{slice_get}
 use Rattle.std.proofs.lemmas.Option.{none-some, slice_get_cases}
 use Rattle.std.specs.Iterator.Runs.{Run}
-use Rattle.std.specs.Slice.Iter.{chunk_count}
 use Rattle.std.proofs.iter.runs.Made.{at-is}
-use Rattle.std.proofs.lemmas.List.Folds.{list_any_at}
+use Rattle.std.proofs.lemmas.List.Folds.{list_any_at, list_any-append}
 use Rattle.rules.specs.View.{place_of, has}
 use Rattle.rules.proofs.Entries.{place_hit, has-nowhere, order}
 use Rattle.rules.specs.Orders.{Rising}
@@ -74,44 +73,28 @@ module _ {xs : List ℕ} {page place : ℕ} (b : Parted xs page place place) whe
 
 -- ---- by blocks
 
+-- One page more was compared.
+pub any-more : (page : ℕ) (ys : List ℕ) (y : ℕ) (a b : Bool) → a ≡ list_any (λ own. own == page) ys → b ≡ a || (y == page) → b ≡ list_any (λ own. own == page) (ys ++ (y ∷ []))
+any-more page ys y a b h e =
+    let t = list_any-append (λ own. own == page) ys (y ∷ []) in
+    let f = or-false (y == page) in
+    cc (t, f)
+
 -- A value that is there has what holds of it if it is there.
 item : {X : Type 0} (P : X → Type 0) (xs : List X) (k : ℕ) (o : Option X) → o ≡ slice_get xs k → k < length xs → IfSome o P → (x : X) × (o ≡ Some x) × P x
 item P xs k None e h p = absurd (⊎_elim (λ t. none-some t.0 (e ∙ t.2)) (λ t. omega arith) (slice_get_cases xs k).1)
 item P xs k (Some x) e h p = (x, refl, p)
 
-pub of-some : {X : Type 0} {P Q : X → Type 0} (o : Option X) → IsSomeAnd o P → ((x : X) → P x → Q x) → IfSome o Q
-of-some None h f = absurd h
-of-some (Some x) h f = f x h
-
--- A run over the blocks of sixteen, each of which was asked whether the page is in it.
+-- A run over blocks of sixteen, the first n of which were asked for the page and do not have it.
 module _ {S : Type 0} {steps : S → Option (Bor (List ℕ)) → S → Type 0} (run : Run steps) (pages : List ℕ) (page : ℕ) where
-  abbrev pub Blocks : Type 0
-  Blocks = (b : ℕ) → IfSome (run.at b) (λ x. (0 < length x.now) × (b * 16 < length pages) × IsSubsliceAt 16 pages (b * 16) x.now)
-
-  -- It is in none of the first n of them.
-  abbrev pub Passed : ℕ → Type 0
-  Passed n = (b : ℕ) → b < n → IfSome (run.at b) (λ x. list_any (λ y. y == page) x.now ≡ false)
-
-  pub blocks-passed : Blocks → (n : ℕ) → n ≤ run.len → Passed n → (to : ℕ) → to ≤ 16 * n → to ≤ length pages → Without pages to page
-  blocks-passed blocks n ran passed to h fits k l e =
+  pub blocks-passed : ((b : ℕ) → IfSome (run.at b) (λ x. (length x.now ≡ 16) × (b * 16 + 16 ≤ length pages) × IsSubsliceAt 16 pages (b * 16) x.now))
+      → (n : ℕ) → n ≤ run.len → ((b : ℕ) → b < n → IfSome (run.at b) (λ x. list_any (λ y. y == page) x.now ≡ false)) → Without pages (16 * n) page
+  blocks-passed blocks n ran passed k l e =
       let b : k / 16 < n = omega arith in
       let t = item _ run.items (k / 16) (run.at (k / 16)) (at-is run (k / 16)) (omega (arith, run.long)) (blocks (k / 16)) in
       let p : list_any (λ y. y == page) t.0.now ≡ false = rw t.1 at (passed (k / 16) b) in
-      let m : k % 16 < length t.0.now = omega (arith, t.2.2.1) in
       let same : get_or t.0.now (k % 16) 0 ≡ get_or pages k 0 = t.2.2.2 (k % 16) 0 (omega arith) ∙ ap (λ j. get_or pages j 0) (omega arith) in
-      true≢false (sym (list_any_at (λ y. y == page) t.0.now (k % 16) 0 m (eq-eqb _ _ (same ∙ e))) ∙ p)
-
-  pub blocks-first : Blocks → (run.whole ≡ true → run.len ≡ chunk_count (length pages) 16) → (o : Option ℕ) {P : Type 0} {Q : ℕ → Type 0} → MatchOption o P Q
-      → (P → (run.whole ≡ true) × Passed run.len) → ((i : ℕ) → Q i → (run.len ≡ i + 1) × Passed i)
-      → MatchOption o (Without pages (length pages) page) (λ b. (16 * b < length pages) × Without pages (16 * b) page)
-  blocks-first blocks whole None h none some =
-      let t = none h in
-      let e = whole t.0 in
-      blocks-passed blocks run.len (omega arith) t.1 (length pages) (omega arith) (omega arith)
-  blocks-first blocks whole (Some i) h none some =
-      let t = some i h in
-      let x = item _ run.items i (run.at i) (at-is run i) (omega (arith, run.long)) (blocks i) in
-      (omega (arith, x.2.1), blocks-passed blocks i (omega arith) t.1 (16 * i) (omega arith) (omega (arith, x.2.1)))
+      true≢false (sym (list_any_at (λ y. y == page) t.0.now (k % 16) 0 (omega (arith, t.2.0)) (eq-eqb _ _ (same ∙ e))) ∙ p)
 
 -- Behind the pages that were passed, one by one.
 module _ (pages : List ℕ) (page n : ℕ) where

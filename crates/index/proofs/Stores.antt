@@ -36,3 +36,6 @@ module _ (f : Form) (x0 x1 x2 x3 x4 : List ℕ) (to sum sum_at : ℕ) (e : Entry
       let three : x3 ≡ laid x0 to (addresses ++ page_sum_bytes f e.checksum) = laid_then x0 x2 x3 addresses _ to (to + 16) two r (rw wide) (omega arith) in
       let same : sum ≡ checksum addresses = s ∙ rw (← wide, two) (ap checksum (part-laid x0 to addresses (omega arith))) in
       rw (← same) (laid_then x0 x3 x4 _ _ to (to + sum_at) three t (rw (all, a)) (omega arith))
+
+-- An entry has room for its addresses.
+pub ruleset placed = (entry-least)

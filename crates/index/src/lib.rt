@@ -2,7 +2,8 @@
 // session's pages.
 #![tactic(auto)]
 
-ghost use Rattle.std.specs.Prelude.{◌≡◌, true, false, ◌+◌, ◌≤◌, ◌*◌, ◌<◌, length, get_or, IfSome, MatchOption, is_some};
+ghost use Rattle.std.specs.Prelude.{◌≡◌, true, false, ◌+◌, ◌≤◌, ◌*◌, ◌^◌, ◌<◌, ◌==◌, length, get_or, IfSome, is_some};
+ghost use Rattle.std.specs.List.{list_any};
 ghost use Rattle.rules.specs.Bytes.{laid};
 ghost use Rattle.rules.specs.Layout.{
   page_sum_at,
@@ -23,6 +24,7 @@ use rules::{Entry, Form, Index};
 // ---- Entries
 
 // The page checksum of the entry at an address.
+#[tactic(auto, unfolding(rules::specs::Layout::page_sum_at, rules::specs::Layout::entry_sum_at))]
 fn page_sum_at(form: Form, history: &[u8], at: usize) -> u64
     requires { at + entry_sum_at form ≤ length history.now }
     ensures { result ≡ page_sum_at form history.now at }
@@ -31,6 +33,7 @@ fn page_sum_at(form: Form, history: &[u8], at: usize) -> u64
 }
 
 // Stores the page checksum of the entry at an address.
+#[tactic(auto, unfolding(rules::specs::Layout::page_sum_bytes, rules::specs::Layout::entry_sum_at))]
 fn put_page_sum(form: Form, history: &mut [u8], at: usize, sum: u64)
     requires { at + entry_sum_at form ≤ length history.old }
     ensures { history.new ≡ laid history.old (at + 16) (page_sum_bytes form sum) }
@@ -39,6 +42,7 @@ fn put_page_sum(form: Form, history: &mut [u8], at: usize, sum: u64)
 }
 
 // The entry at an address.
+#[tactic(auto, using(crate::proofs::Stores::placed))]
 pub fn entry_at(form: Form, history: &[u8], at: usize) -> Entry
     requires { at + entry_sum_at form ≤ length history.now }
     ensures { result ≡ entry_at form history.now at }
@@ -54,6 +58,7 @@ pub fn entry_at(form: Form, history: &[u8], at: usize) -> Entry
 }
 
 // Stores an entry at an address. The checksum of its first sixteen bytes is made where they stand.
+#[tactic(auto, using(crate::proofs::Stores::placed))]
 pub fn put_entry(form: Form, history: &mut [u8], to: usize, entry: Entry)
     requires { to + entry_width form ≤ length history.old }
     ensures { history.new ≡ laid history.old to (entry_bytes form entry) }
@@ -65,26 +70,36 @@ pub fn put_entry(form: Form, history: &mut [u8], to: usize, entry: Entry)
     numbers::put_u32(history, to + layout::entry_sum_at(form), sum);
 }
 
-// The entry at a place of an index.
+// The address of the entry at a place of an index.
+fn address(x: Index, place: usize) -> usize
+    requires { (x.at + entries_width x.form x.entries < 2 ^ 64) × (place < x.entries) }
+    ensures value { result ≡ x.at + entries_width x.form place }
+    ensures within { result + entry_width x.form ≤ x.at + entries_width x.form x.entries }
+{
+    x.at + layout::entries_width(x.form, place)
+}
+
+// The entry there.
 pub fn entry(history: &[u8], x: Index, place: usize) -> Entry
     requires { (x.at + entries_width x.form x.entries ≤ length history.now) × (place < x.entries) }
     ensures { result ≡ entry_at x.form history.now (x.at + entries_width x.form place) }
 {
-    let form = x.form;
-    entry_at(form, history, x.at + layout::entries_width(form, place))
+    entry_at(x.form, history, address(x, place))
 }
 
 // Its logical address alone.
+#[tactic(auto, using(rules::proofs::Entries::logical_entries, crate::proofs::Stores::placed))]
 pub fn logical(history: &[u8], x: Index, place: usize) -> u64
     requires { (x.at + entries_width x.form x.entries ≤ length history.now) × (place < x.entries) }
     ensures { result ≡ get_or (logicals (entries_in history.now x)) place 0 }
 {
-    numbers::get_u64(history, x.at + layout::entries_width(x.form, place))
+    numbers::get_u64(history, address(x, place))
 }
 
 // ---- Places in an index, whose addresses rise
 
 // The place of the first entry whose address is not below another. It is searched by halves.
+// By hand: the library's `partition_point` is of a slice, and the entries stand as bytes.
 pub fn place_from(history: &[u8], x: Index, address: u64) -> usize
     requires entries_in_bounds { x.at + entries_width x.form x.entries ≤ length history.now }
     requires rising { Rising (logicals (entries_in history.now x)) }
@@ -120,12 +135,22 @@ pub fn find(history: &[u8], x: Index, page: u64) -> Option<usize>
 
 // ---- Places among a session's pages, which stand in the order of first touch
 
-// The first block of sixteen pages that has a page. A block is compared with no branch for each of its pages, so that the machine
-// compares several at a time.
-fn block_of(pages: &[u32], page: u32) -> Option<usize>
-    ensures { MatchOption result (Without pages.now (length pages.now) page) (λ b. (16 * b < length pages.now) × Without pages.now (16 * b) page) }
+// Whether a page is one of these. It is compared with each of them and goes by no branch, so that the machine compares several of a
+// block at a time.
+fn any_is(pages: &[u32], page: u32) -> bool
+    ensures { result ≡ list_any (λ own. own == page) pages.now }
 {
-    pages.chunks(16).position(|block| block.contains(&page))
+    pages.iter().fold(false, |any, own| any | (*own == page))
+}
+
+// How many blocks of sixteen pages are passed, ahead of the first that has a page.
+fn passed_blocks(pages: &[u32], page: u32) -> usize
+    ensures { (16 * result ≤ length pages.now) × Without pages.now (16 * result) page }
+{
+    pages
+        .chunks_exact(16)
+        .take_while(|block| !any_is(block, page))
+        .count()
 }
 
 // The place of a page among a session's, where it is one of them. The pages are numbers of 32 bits and are compared as such.
@@ -136,7 +161,7 @@ pub fn own_place(pages: &[u32], page: u64) -> Option<usize>
     let Ok(sought) = u32::try_from(page) else {
         return None;
     };
-    let from = 16 * block_of(pages, sought)?;
+    let from = 16 * passed_blocks(pages, sought);
     let inside = pages[from..].iter().position(|own| *own == sought)?;
     Some(from + inside)
 }

@@ -1,8 +1,7 @@
 // A session's rows: 13, then 7 and 8 of its parent, then the last condition of 13; and the rows ahead of them.
 #![tactic(auto)]
 
-ghost use Rattle.std.specs.Prelude.{◌≡◌, true, ◌-◌, ◌≤◌, ◌<◌, length, take, get_or};
-ghost use Rattle.rules.specs.Bytes.{part};
+ghost use Rattle.std.specs.Prelude.{◌≡◌, true, ◌+◌, ◌≤◌, ◌<◌, length, drop, get_or};
 ghost use Rattle.rules.specs.Layout.{page_allowed};
 ghost use Rattle.rules.specs.Orders.{Rising};
 ghost use Rattle.rules.specs.View.{has};
@@ -38,40 +37,26 @@ pub fn ended() -> State
 
 // ---- Row 13
 
-// Whether the page ahead of a place comes again among the first n from there on. Pages that rise do not.
-fn comes_again(pages: &[u32], rising: bool, from: usize, n: usize, page: u64) -> bool
-    requires from_nonzero { (0 < from) × (from ≤ n) × (n ≤ length pages.now) × (page ≡ get_or pages.now (from - 1) 0) }
-    requires rising { rising ≡ true → Rising (take n pages.now) }
-    ensures { result ≡ has (part pages.now from (n - from)) page }
+// Whether the page at a place comes again behind it. Pages that rise do not.
+fn comes_again(pages: &[u32], rising: bool, place: usize) -> bool
+    requires place { place < length pages.now }
+    requires rising { rising ≡ true → Rising pages.now }
+    ensures { result ≡ has (drop (place + 1) pages.now) (get_or pages.now place 0) }
 {
-    if rising {
-        return false;
-    }
-    let left = n - from;
-    index::own_place(&pages[from..n], left, page) < left
+    !rising && index::own_place(&pages[place + 1..], u64::from(pages[place])).is_some()
 }
 
-// Whether each of the first n pages is a multiple of the page size, lies below the size and comes no second time.
-fn pages_fit(pages: &[u32], n: usize, page: u64, size: u64) -> bool
-    requires { (n ≤ length pages.now) × (page_allowed page ≡ true) }
-    ensures { result ≡ pages_fit page size (take n pages.now) }
+// Whether each page is a multiple of the page size, lies below the size and comes no second time.
+fn pages_fit(pages: &[u32], page: u64, size: u64) -> bool
+    requires { page_allowed page ≡ true }
+    ensures { result ≡ pages_fit page size pages.now }
 {
-    let rising = index::rise(pages, n);
-    let mut k = 0;
-    while k < n {
-        let a = pages[k] as u64;
-        k += 1;
-        if comes_again(pages, rising, k, n, a) {
-            return false;
-        }
-        if !numbers::multiple(a, page) {
-            return false;
-        }
-        if size <= a {
-            return false;
-        }
-    }
-    true
+    let rising = index::rise(pages);
+    pages.iter().enumerate().all(|(place, own)| {
+        !comes_again(pages, rising, place)
+            && numbers::multiple(u64::from(*own), page)
+            && u64::from(*own) < size
+    })
 }
 
 // Row 13, but for its last condition. The session may be any numbers, so a sum waits until its parts are known to be small.
@@ -94,7 +79,7 @@ fn session_wrong(history: &[u8], s: Setting, st: State) -> bool
     if (history.len() as u64) < st.end + st.n * form.page {
         return true;
     }
-    !pages_fit(&st.pages, st.n as usize, form.page, st.size)
+    !pages_fit(&st.pages[..st.n as usize], form.page, st.size)
 }
 
 // ---- A session's rows

@@ -28,32 +28,30 @@ use Rattle.rules.proofs.Bytes.{
   byte-below,
 }
 use Rattle.rules.proofs.Entries.{either, entry_entries, length-logicals_entries, entries-laid}
-use Rattle.rules.proofs.Range.{page-at, page-there, page-missing, entry-there, own-length, touching_new}
+use Rattle.rules.proofs.Range.{page-at, page-there, entry-there, own-length, touching_new}
 use Rattle.view.specs.Seen.{original_byte}
 use Rattle.touching.specs.Pages.{Source, Ready, page_byte, kept_byte}
 
 -- ---- One page's bytes
 
-module _ (o h : List ℕ) (x : Index) (to a from n : ℕ) {place : ℕ} (ep : place ≡ place_of a (logicals (entries_in h x))) {y : List ℕ} where
-  pub page-stored : {e : Entry} → place < x.entries → e ≡ entry_at x.form h (x.at + entries_width x.form place) → e.physical + from + n ≤ length h
+module _ (o h : List ℕ) (x : Index) (to a from n : ℕ) {y : List ℕ} where
+  pub page-stored : {place : ℕ} {e : Entry} → place ≡ place_of a (logicals (entries_in h x)) → place < x.entries → e ≡ entry_at x.form h (x.at + entries_width x.form place)
+      → e.physical + from + n ≤ length h
       → y ≡ laid h to (part h (e.physical + from) n)
       → y ≡ laid h to (tabulate n (λ j. page_byte o h (entries_in h x) a (from + j)))
   unfolding page_byte
-  page-stored {e} l q room f =
+  page-stored {e = e} ep l q room f =
       let g : e ≡ entry_of (entries_in h x) a = q ∙ entry-there h x a ep l in
       f ∙ ap (laid h to) (part-tabulate h (e.physical + from) n room ∙ tabulate-same n _ _ (λ j k. rw (page-there h x a ep l, ← g, add_assoc e.physical from j)))
 
-  pub page-original : x.entries ≤ place → y ≡ laid h to (tabulate n (original_byte o (a + from))) → y ≡ laid h to (tabulate n (λ j. page_byte o h (entries_in h x) a (from + j)))
+  pub page-original : false ≡ has_page (entries_in h x) a → y ≡ laid h to (tabulate n (original_byte o (a + from))) → y ≡ laid h to (tabulate n (λ j. page_byte o h (entries_in h x) a (from + j)))
   unfolding page_byte
-  page-original l f = f ∙ ap (laid h to) (tabulate-same n _ _ (λ j k. rw (page-missing h x a ep l, add_assoc a from j)))
+  page-original none f = f ∙ ap (laid h to) (tabulate-same n _ _ (λ j k. rw (← none, add_assoc a from j)))
 
 pub source_entry : {h : List ℕ} {x : Index} {to from n : ℕ} → Source h x to from n → {place : ℕ} {e : Entry} → place < x.entries
     → e ≡ entry_at x.form h (x.at + entries_width x.form place)
     → e.physical + (from + n) ≤ to
 source_entry {h} {x} w {place} l q = rw (q ∙ sym (entry_entries x.form h x.at x.entries place l)) (w.stored place l)
-
-pub source_less : {h : List ℕ} {x : Index} {to from n : ℕ} (m : ℕ) → Source h x to from n → m ≤ n → Source h x to from m
-source_less m w l = record { room = omega (arith, w.room); ahead = w.ahead; rising = w.rising; stored = λ k q. omega (arith, w.stored k q) }
 
 -- ---- Kept bytes, and zeros behind
 

@@ -57,6 +57,12 @@ unfolding missing
 passing-start index p first m b =
     record { within = omega arith; small = omega arith; passed = λ i l. rw (zero-mul, add-zero) (b.below i l); counts = refl }
 
+-- No page is left,
+pub passing-end : {index : List Entry} {p first m k place count : ℕ} → Passing index p first m k place count → m ≤ k → count + (m - k) ≡ missing index p first m
+passing-end {index} {p} {first} {m} {k} c l =
+    let e : k ≡ m = omega (arith, c.within) in
+    omega (arith, c.counts, ap (missing index p first) e)
+
 module _ {index : List Entry} {p first m k place count : ℕ} (c : Passing index p first m k place count) (rising : Rising (logicals index)) where
   -- A page behind the passed entries and ahead of the next has no entry.
   absent : (a : ℕ) → first + k * p ≤ a → (place < length (logicals index) → a < get_or (logicals index) place 0) → has_page index a ≡ false
@@ -73,7 +79,7 @@ module _ {index : List Entry} {p first m k place count : ℕ} (c : Passing index
   pass : (j : ℕ) → ((i : ℕ) → i < j → place < length (logicals index) → first + (k + i) * p < get_or (logicals index) place 0) → missing index p first (k + j) ≡ count + j
   pass j high = missing_run index p first k j (λ i q. absent (first + (k + i) * p) (omega (arith, add-mul k i p)) (high i q)) ∙ omega (arith, c.counts)
 
-  -- No entry is left that is not behind all pages,
+  -- or no entry is left that is not behind all pages,
   pub passing_rest : 0 < p → (place < length (logicals index) → first + m * p ≤ get_or (logicals index) place 0) → count + (m - k) ≡ missing index p first m
   passing_rest pos past =
       let e : k + (m - k) ≡ m = omega (arith, c.within) in
@@ -88,22 +94,17 @@ module _ {index : List Entry} {p first m k place count : ℕ} (c : Passing index
     counts = sym (pass j (λ i q h. high i q));
   }
 
-  module _ (there : place < length (logicals index)) where
-    -- or ahead of this one,
-    pub passing-below : get_or (logicals index) place 0 < first + k * p → Passing index p first m k (place + 1) count
-    passing-below l = record { within = c.within; small = c.small; passed = below_more _ place c.passed l; counts = c.counts }
-
-    -- or it is this one's.
-    pub passing-at : 0 < p → k < m → get_or (logicals index) place 0 ≡ first + k * p → Passing index p first m (k + 1) (place + 1) count
-    unfolding missing
-    passing-at pos l e =
-        let more : (k + 1) * p ≡ k * p + p = rw (add-one k) (suc-mul k p) in
-        record {
-          within = omega arith;
-          small = omega (arith, c.small);
-          passed = below_more _ place (λ i q. omega (arith, c.passed i q)) (omega arith);
-          counts = rw (add-one k, has-at (logicals index) place (first + k * p) there e) (omega (arith, c.counts));
-        }
+  -- or it is this one's.
+  pub passing-at : place < length (logicals index) → 0 < p → k < m → get_or (logicals index) place 0 ≡ first + k * p → Passing index p first m (k + 1) (place + 1) count
+  unfolding missing
+  passing-at there pos l e =
+      let more : (k + 1) * p ≡ k * p + p = rw (add-one k) (suc-mul k p) in
+      record {
+        within = omega arith;
+        small = omega (arith, c.small);
+        passed = below_more _ place (λ i q. omega (arith, c.passed i q)) (omega arith);
+        counts = rw (add-one k, has-at (logicals index) place (first + k * p) there e) (omega (arith, c.counts));
+      }
 
 -- ---- The pages and entries
 
@@ -186,11 +187,6 @@ module _ {index : List Entry} {own : List ℕ} {p first m a k touched merged : �
     over = λ q. omega (arith, c.pages, touching_range own p first k m c.within);
     exact = λ q. absurd (omega arith);
   }
-
-  pub counted-end : m ≤ k → Counted index own (pages_from p first m) touched merged
-  counted-end l =
-      let e : k ≡ m = omega (arith, c.within) in
-      record { over = λ q. rw (← e) (omega (arith, c.pages)); exact = λ q. rw (← e) (c.pages, c.entries) }
 
 pub counting-room : {index : List Entry} {own : List ℕ} {p first m a k touched merged : ℕ} → Counting index own p first m a k touched merged → (j : ℕ) → k + j ≤ m → a + j * p ≤ first + m * p
 counting-room {p = p} {k = k} c j l = omega (arith, c.spot, mul-le-mul_right p l, add-mul k j p)

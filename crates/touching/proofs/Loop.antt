@@ -7,7 +7,9 @@ use native.Mathlib.Nat.{add-zero, zero-mul, mul-le-mul_right, lt_of_mul-lt-mul_r
 use native.Mathlib.Numerals.{add-one}
 use native.Mathlib.Omega.{arith}
 use lib.ListN.{length, take, drop, set}
-use lib.Seq.{take-take}
+use lib.Seq.{take-take, take-length}
+use borrow.Rule.Slice.PartMut.{put_mid}
+use Rattle.std.proofs.lemmas.Slice.{put_mid-paste}
 use Rattle.rules.specs.Bytes.{part, laid, tabulate}
 use Rattle.rules.specs.Layout.{limit, touch_limit, entries_in}
 use Rattle.rules.specs.View.{place_of, has, page_of, own_pages, pages_from, pages_in, pages_shared}
@@ -161,6 +163,7 @@ module _ (o : List ℕ) (s : Setting) (x : Index) (index : List Entry) (offset :
         let q : suc k * s.form.page ≤ m * s.form.page = mul-le-mul_right s.form.page more in
         let near : first + m * s.form.page < offset + length bytes + s.form.page = rw w.all (pages-end-near s.form.page offset (length bytes) some) in
         record {
+          some = some;
           small = size.most;
           below = omega (arith, w.spot, suc-mul k s.form.page);
           above = omega (arith, w.spot, div-add-mod' offset s.form.page, mod-lt offset some);
@@ -185,16 +188,17 @@ module _ (o : List ℕ) (s : Setting) (x : Index) (index : List Entry) (offset :
 
     -- A page that was there ahead of the write is found.
     module _ (full : start.session.n ≤ length start.session.pages) {place : ℕ} (e : place ≡ place_of a (take start.session.n st.pages)) where
-      writing-there : place < start.session.n → (place ≡ place_of a (own_pages st)) × (place < st.n)
+      writing-there : place < length (take start.session.n st.pages) → (place ≡ place_of a (own_pages st)) × (place < st.n)
       writing-there l =
-          let e : place ≡ place_of a (own_pages start.session) = e ∙ ap (place_of a) (writing_kept full) in
-          let b : place_of a (own_pages start.session) < length (own_pages start.session) = omega (arith, own-length start.session full) in
+          let kept = writing_kept full in
+          let e : place ≡ place_of a (own_pages start.session) = e ∙ ap (place_of a) kept in
+          let b : place_of a (own_pages start.session) < length (own_pages start.session) = omega (arith, ap length kept) in
           let f = place-touching a (own_pages start.session) (pages_from s.form.page first k) b in
           let g = touching_grows (own_pages start.session) (pages_from s.form.page first k) in
           let n = own-length st (omega (arith, w.ready.full, w.ready.few)) in
           (rw w.own (e ∙ sym f), omega (arith, ap length w.own))
 
-      pub writing-room : place < start.session.n → st.end + place * s.form.page + s.form.page ≤ length h
+      pub writing-room : place < length (take start.session.n st.pages) → st.end + place * s.form.page + s.form.page ≤ length h
       writing-room l = let t = writing-there l in place-room writing_one (leaves writing_one o (touch_own writing_one o t.0 t.1)) t.0
 
     turn : Shares s.form.page a offset (length bytes) → {after : Held} → after ≡ laid_on_page s offset bytes a (touched o s (entries_in h x) a (record { history = h; session = st }))
@@ -216,7 +220,7 @@ module _ (o : List ℕ) (s : Setting) (x : Index) (index : List Entry) (offset :
         })
 
     module _ (short : offset + length bytes ≤ limit) (full : start.session.n ≤ length start.session.pages) {place : ℕ} (e : place ≡ place_of a (take start.session.n st.pages)) where
-      pub writing-over : {y : List ℕ} → place < start.session.n → y ≡ over_page h (st.end + place * s.form.page) s.form.page a offset bytes
+      pub writing-over : {y : List ℕ} → place < length (take start.session.n st.pages) → y ≡ over_page h (st.end + place * s.form.page) s.form.page a offset bytes
           → Writing m start (record { history = y; session = st }) (a + s.form.page) (k + 1)
       writing-over l q = let t = writing-there full e l in turn (writing_shares short) (own-laid writing_one o offset bytes t.0 t.1 q)
 
@@ -324,14 +328,26 @@ module _ (o : List ℕ) (s : Setting) (x : Index) (index : List Entry) (offset :
       in-history = rw (slice-part bytes (a - offset) (j * s.form.page), length_part bytes (a - offset) (j * s.form.page) covers) (omega (arith, writing_past all-stored, w.long, add-mul st.n j s.form.page));
     }
 
-    pub writing-stored : {y z : List ℕ}
+    noted_long : length (take (st.n + j - st.n) (drop st.n st.pages)) ≡ j
+    noted_long = rw slice-part (length_part st.pages st.n j (omega (arith, all-stored.ready.few, w.ready.full)))
+
+    -- What is noted takes the place of as many pages.
+    noted-laid : (ys : List ℕ) → ys ≡ tabulate (length (take (st.n + j - st.n) (drop st.n st.pages))) (λ i. a + i * s.form.page)
+        → put_mid st.n (st.n + j - st.n) st.pages ys ≡ laid st.pages st.n (tabulate j (λ i. a + i * s.form.page))
+    unfolding laid
+    noted-laid ys e =
+        let over : List ℕ = tabulate j (λ i. a + i * s.form.page) in
+        let long : length over ≡ j = length-tabulate j (λ i. a + i * s.form.page) in
+        put_mid-paste st.n (st.n + j - st.n) st.pages ys over (length over) (rw noted_long at e) (omega arith) refl ∙ rw take-length
+
+    pub writing-stored : {y ys : List ℕ}
         → y ≡ laid h (st.end + st.n * s.form.page) (take (a - offset + j * s.form.page - (a - offset)) (drop (a - offset) bytes))
-        → z ≡ laid st.pages st.n (tabulate j (λ i. a + i * s.form.page))
+        → ys ≡ tabulate (length (take (st.n + j - st.n) (drop st.n st.pages))) (λ i. a + i * s.form.page)
         → Writing m start
-        (record { history = y; session = record { end = st.end; count = st.count; parent = st.parent; size = st.size; n = st.n + j; pages = z } })
+        (record { history = y; session = record { end = st.end; count = st.count; parent = st.parent; size = st.size; n = st.n + j; pages = put_mid st.n (st.n + j - st.n) st.pages ys } })
         (a + j * s.form.page)
         (k + j)
-    writing-stored e f = rw (e, f, slice-part bytes (a - offset) (j * s.form.page)) all-stored
+    writing-stored e f = rw (e, noted-laid _ f, slice-part bytes (a - offset) (j * s.form.page)) all-stored
 
   pub writing-end : {m : ℕ} {start now : Held} {a k : ℕ} → Writing m start now a k → m ≤ k
       → now ≡ written_pages o s index offset bytes (pages_shared s.form.page offset (length bytes)) start

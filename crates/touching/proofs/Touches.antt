@@ -6,7 +6,7 @@ use mathlib.Core.Logic.{⊎_elim}
 use Prim.Native.Nat.{ℕ, suc, ◌+◌, ◌*◌, ◌-◌, ◌%◌, ◌≤◌, ◌<◌, min, max}
 use native.Mathlib.Nat.{mul-le-mul_right, suc-mul}
 use native.Mathlib.Omega.{arith}
-use lib.ListN.{length, take, drop, length-set}
+use lib.ListN.{length, length-set}
 use borrow.Author.Tests.{ltb-true, ltb-false}
 use Rattle.rules.specs.Bytes.{part, laid, tabulate}
 use Rattle.rules.specs.Layout.{touch_limit, entries_in}
@@ -100,29 +100,17 @@ module _ {h : List ℕ} {s : Setting} {x : Index} {index : List Entry} {st : Sta
 
 -- ---- The bytes that fall into the page
 
-between : (last first offset : ℕ) → offset ≤ first → last - offset - (first - offset) ≡ last - first
-between last first offset l = omega arith
-
-pub over_run : {p a offset skip from end : ℕ} (h : List ℕ) (to : ℕ) (bytes : List ℕ) → Within p a offset (length bytes) skip from end
-    → laid h (to + skip) (take (end - from) (drop from bytes)) ≡ over_page h to p a offset bytes
+pub over_run : {p a offset skip : ℕ} {bytes run : List ℕ} (h : List ℕ) (to : ℕ) → Within p a offset bytes skip run → laid h (to + skip) run ≡ over_page h to p a offset bytes
 unfolding over_page
-over_run {p} {a} {offset} {skip} {from} {end} h to bytes w =
-    let d : end - from ≡ min (offset + length bytes) (a + p) - max offset a =
-    rw (w.ends, w.starts) (between (min (offset + length bytes) (a + p)) (max offset a) offset (omega arith)) in
-    rw (d, w.skips, w.starts)
+over_run h to w = rw (w.skips, w.run-is)
 
 -- A page that the write covers has its run from its start on.
 pub over_whole : (p a offset : ℕ) (h : List ℕ) (to : ℕ) (bytes : List ℕ) → offset ≤ a → a - offset + p ≤ length bytes
     → laid h (to + 0) (part bytes (a - offset) p) ≡ over_page h to p a offset bytes
 over_whole p a offset h to bytes l m =
-    let w : Within p a offset (length bytes) 0 (a - offset) (a - offset + p) =
-    record { skips = omega arith; starts = omega arith; ends = omega arith; ordered = omega arith; in_bytes = m; in-page = omega arith } in
-    let e : a - offset + p - (a - offset) ≡ p = omega arith in
-    rw e at (over_run h to bytes w)
-
-pub run_long : {p a offset skip from end : ℕ} (bytes : List ℕ) → Within p a offset (length bytes) skip from end
-    → skip + length (take (end - from) (drop from bytes)) ≡ skip + (end - from)
-run_long {skip = skip} {from = from} {end = end} bytes w = rw (length_part bytes from (end - from) (omega (arith, w.ordered, w.in_bytes)))
+    let first : max offset a ≡ a = omega arith in
+    let some : min (offset + length bytes) (a + p) - max offset a ≡ p = omega arith in
+    over_run h to (record { skips = omega arith; run-is = rw (some, first); in-page = rw (length_part bytes (a - offset) p m) (omega arith) })
 
 pub over_fits : {p a offset : ℕ} (bytes : List ℕ) → Shares p a offset (length bytes) → (to room : ℕ) → to + p ≤ room
     → to + (max offset a - a) + length (part bytes (max offset a - offset) (min (offset + length bytes) (a + p) - max offset a)) ≤ room

@@ -1,6 +1,6 @@
 -- The bytes that a first touch copies, and what has to hold for pages to be touched.
 use Rattle.std.specs.Prelude.{◌≡◌, false, cond, List, ℕ, zero, suc, ◌+◌, ◌*◌, ◌-◌, ◌≤◌, ◌<◌, min, max, ltb, length, get_or}
-use Rattle.rules.specs.Bytes.{byte_at}
+use Rattle.rules.specs.Bytes.{byte_at, part}
 use Rattle.rules.specs.Layout.{limit, touch_limit, entries_width, entries_in}
 use Rattle.rules.specs.Orders.{Rising}
 use Rattle.rules.specs.View.{has, no_entry, logicals, has_page, entry_of, own_pages}
@@ -28,19 +28,17 @@ pub record Source (h : List ℕ) (x : Index) (to from n : ℕ) : Type 0 where
 
 -- A page of p bytes at an address shares a byte with a write of n bytes at an offset.
 pub record Shares (p a offset n : ℕ) : Type 0 where
+  pub some : 0 < p
   pub small : p ≤ 4096
   pub below : a < offset + n
   pub above : offset < a + p
   pub short : offset + n ≤ limit
 
--- The bytes of the write from the one to the other fall into the page, behind `skip` of its bytes.
-pub record Within (p a offset n skip from end : ℕ) : Type 0 where
+-- The bytes of a write that fall into the page, and how many of the page's are ahead of them.
+pub record Within (p a offset : ℕ) (bytes : List ℕ) (skip : ℕ) (run : List ℕ) : Type 0 where
   pub skips : skip ≡ max offset a - a
-  pub starts : from ≡ max offset a - offset
-  pub ends : end ≡ min (offset + n) (a + p) - offset
-  pub ordered : from ≤ end
-  pub in_bytes : end ≤ n
-  pub in-page : skip + (end - from) ≤ p
+  pub run-is : run ≡ part bytes (max offset a - offset) (min (offset + length bytes) (a + p) - max offset a)
+  pub in-page : skip + length run ≤ p
 
 -- The write covers r pages from the one at an address on.
 pub record Covers (p a offset n r : ℕ) : Type 0 where

@@ -3,10 +3,10 @@ use mathlib.Core.Path.{◌≡◌, refl}
 use mathlib.Core.List.{List}
 use Prim.Native.Nat.{ℕ, ◌+◌, ◌≤◌, max}
 use native.Mathlib.Omega.{arith}
-use lib.ListN.{length, take}
+use lib.ListN.{length}
 use Rattle.rules.specs.Layout.{entry_limit, touch_limit, entries_width, entries_in, index_of}
 use Rattle.rules.specs.Orders.{Rising}
-use Rattle.rules.specs.View.{logicals, pages_shared}
+use Rattle.rules.specs.View.{logicals, own_pages, pages_shared}
 use Rattle.rules.specs.Session.{Held, with_size, written, written_pages, merged_count}
 use Rattle.rules.specs.declared.Setting.{Setting}
 use Rattle.rules.specs.declared.Record.{Record}
@@ -14,7 +14,6 @@ use Rattle.rules.specs.declared.Index.{Index}
 use Rattle.rules.specs.declared.State.{State}
 use Rattle.rules.proofs.Entries.{length_entries}
 use Rattle.rules.proofs.Places.{end-behind}
-use Rattle.rules.proofs.Range.{own-length}
 use Rattle.layout.specs.Paged.{Paged}
 use Rattle.records.specs.Sound.{index_in}
 use Rattle.records.proofs.Fields.{index-there}
@@ -40,11 +39,11 @@ module _ {h : List ℕ} {s : Setting} {st : State} {r : Record} (q : SoundSessio
   index-paged = rw e q.parent.sound.paged
 
   -- So many entries at the most.
-  pub before-most : {before : ℕ} → before ≡ merged_count (entries_in h x) (take st.n st.pages) → st.n ≤ length st.pages → before ≤ entry_limit + st.n
+  pub before-most : {before : ℕ} → before ≡ merged_count (entries_in h x) (own_pages st) → before ≤ entry_limit + length (own_pages st)
   unfolding index_in
-  before-most f l =
+  before-most f =
       let long : length (entries_in h x) ≡ r.entries = rw e (length_entries s.form h (index_in s r).at r.entries) in
-      omega (arith, f, merged-most (entries_in h x) (take st.n st.pages), long, own-length st l, q.parent.right.few)
+      omega (arith, f, merged-most (entries_in h x) (own_pages st), long, q.parent.right.few)
 
   -- What was counted, of the parent's index.
   pub counted-there : (own : List ℕ) (at n : ℕ) {touched merged : ℕ} → Counted (entries_in h x) own (pages_shared x.form.page at n) touched merged

@@ -12,6 +12,7 @@ ghost use Rattle.writing.specs.Writable.{Writable, rows_behind};
 
 use rules::{Record, Setting, State};
 use sessions::Answered;
+use touching::Write;
 use view::View;
 
 // Row 19. The offset may be as large as the limit, so no sum is made.
@@ -29,9 +30,9 @@ fn room_rows(st: State, history: &[u8], s: Setting, r: Record, at: usize, n: usi
         then row 15 (no_room (length history.now) (own_address s st (length (touching (own_pages st) (pages_shared s.form.page at n))))) }
 {
     let x = records::index_in(s, r);
-    let own = st.n as usize;
-    let before = merge::merged_count(history, x, &st.pages, own);
-    let would = touching::count_pages(history, x, &st.pages, own, before, at, n);
+    let own = &st.pages[..st.n as usize];
+    let before = merge::merged_count(history, x, own);
+    let would = touching::count_pages(history, x, own, before, at, n);
     if layout::TOUCHED < would.touched as u64 {
         return 14;
     }
@@ -85,9 +86,15 @@ fn put_written(
     ensures { ◌≡◌ {A = Held} (record { history = history.exit.now; session = result })
         (written original.now s (index_of history.entry.now s.form r) at bytes.now (record { history = history.entry.now; session = st })) }
 {
-    let size = numbers::most(st.size as usize, at + bytes.len());
-    let x = records::index_in(s, r);
-    let mut t = touching::write_pages(st, original, history, s, x, at, bytes);
+    let size = (st.size as usize).max(at + bytes.len());
+    let write = Write {
+        original,
+        setting: s,
+        index: records::index_in(s, r),
+        offset: at,
+        bytes,
+    };
+    let mut t = write.put(history, st);
     t.size = size as u64;
     t
 }

@@ -16,7 +16,7 @@ pub merged_count-entries-requires : goal.merged_count-entries-requires
 merged_count-entries-requires c =
     let w = c.judge_alone-held.ensures.sound c.if-held-ne0.false in
     let x = c.index_in-x.ensures in
-    record { entries_in_bounds = (index-inside _ w x, omega (arith, w.touched)); rising = index_rises _ w x; distinct = w.differ }
+    record { entries_in_bounds = index-inside _ w x; rising = index_rises _ w x; distinct = w.differ }
 
 pub returns-then-entries-gt-ENTRIES : goal.returns-then-entries-gt-ENTRIES
 returns-then-entries-gt-ENTRIES c =

@@ -1,5 +1,5 @@
 -- The page stands in no block that was passed, and at the first place behind them that has it.
-use mathlib.Core.Path.{◌≡◌, sym, ◌∙◌}
+use mathlib.Core.Path.{◌≡◌, sym}
 use borrow.Author.Rules.{rules}
 use borrow.Author.Tests.{tests, lt-ltb}
 use native.Mathlib.Omega.{arith}
@@ -13,22 +13,20 @@ pub returns-in_default-clause-found : goal.returns-in_default-clause-found
 returns-in_default-clause-found c =
     sym (has-nowhere c.args.pages.now c.args.page (λ k l e. c.in_default.ensures (omega (arith, c.type_inv.pages k))))
 
-pub returns-in_err-from-clause-found : goal.returns-in_err-from-clause-found
-returns-in_err-from-clause-found c =
-    rw c.from_residual.ensures (sym (has-nowhere c.args.pages.now c.args.page (λ k l e. c.in_err-from.ensures k l (e ∙ sym c.in-Ok.ensures.1))))
-
 pub returns-in_err-inside-clause-found : goal.returns-in_err-inside-clause-found
 returns-in_err-inside-clause-found c =
-    let none = MatchOption-at_none _ _ c.in_err-inside.was (IsFirst-from_position _ _ _ (λ x. x ≡ c.args.page) (λ x. x ≡ c.args.page → ⊥) c.position.ensures.ran (YieldsList-from_slice _ c.iter.ensures.rest) (λ x q k. search (rules, tests)) (λ x q k. search (rules, tests))) in
-    rw c.from_residual-in_err-inside.ensures (sym (own_miss c.args.pages.now c.args.page _ (omega (arith, c.in_ok-from.ensures.0)) (λ k l q. c.in_ok-from.ensures.1 k l (q ∙ sym c.in-Ok.ensures.1)) none))
+    let passed = rw c.in-Ok.ensures.1 at c.passed_blocks-from.ensures in
+    let first =
+    IsFirst-from_position _ _ _ (λ own. own ≡ c.args.page) (λ own. own ≡ c.args.page → ⊥) c.position.ensures.ran (YieldsList-from_slice _ c.iter.ensures.rest)
+    (λ x q k. search (rules, tests)) (λ x q k. search (rules, tests)) in
+    rw c.from_residual.ensures (sym (own_miss c.args.pages.now c.args.page _ passed.0 passed.1 (MatchOption-at_none _ _ c.in_err-inside.was first)))
 
-pub returns-clause-place : goal.returns-clause-place
-returns-clause-place c =
-    let h = MatchOption-at_some _ _ _ c.in_ok-inside.was (IsFirst-from_position _ _ _ (λ x. x ≡ c.args.page) (λ x. x ≡ c.args.page → ⊥) c.position.ensures.ran (YieldsList-from_slice _ c.iter.ensures.rest) (λ x q k. search (rules, tests)) (λ x q k. search (rules, tests))) in
-    own_hit c.args.pages.now c.args.page _ (omega (arith, c.in_ok-from.ensures.0)) (λ k l q. c.in_ok-from.ensures.1 k l (q ∙ sym c.in-Ok.ensures.1)) _ h.0 h.1 h.2
-
-pub returns-clause-found : goal.returns-clause-found
-returns-clause-found c =
-    let h = MatchOption-at_some _ _ _ c.in_ok-inside.was (IsFirst-from_position _ _ _ (λ x. x ≡ c.args.page) (λ x. x ≡ c.args.page → ⊥) c.position.ensures.ran (YieldsList-from_slice _ c.iter.ensures.rest) (λ x q k. search (rules, tests)) (λ x q k. search (rules, tests))) in
-    let t = own_hit c.args.pages.now c.args.page _ (omega (arith, c.in_ok-from.ensures.0)) (λ k l q. c.in_ok-from.ensures.1 k l (q ∙ sym c.in-Ok.ensures.1)) _ h.0 h.1 h.2 in
-    sym (lt-ltb _ _ (omega arith))
+pub returns : goal.returns
+returns c =
+    let passed = rw c.in-Ok.ensures.1 at c.passed_blocks-from.ensures in
+    let first =
+    IsFirst-from_position _ _ _ (λ own. own ≡ c.args.page) (λ own. own ≡ c.args.page → ⊥) c.position.ensures.ran (YieldsList-from_slice _ c.iter.ensures.rest)
+    (λ x q k. search (rules, tests)) (λ x q k. search (rules, tests)) in
+    let h = MatchOption-at_some _ _ _ c.in_ok-inside.was first in
+    let t = own_hit c.args.pages.now c.args.page _ passed.0 passed.1 _ h.0 h.1 h.2 in
+    record { place = t; found = sym (lt-ltb _ _ (omega arith)) }

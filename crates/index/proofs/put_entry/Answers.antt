@@ -1,19 +1,6 @@
 -- Each store lies behind the one before it, and the last is the checksum of what the first two stored.
-use native.Mathlib.Omega.{arith}
-use Rattle.rules.proofs.Places.{entry-least}
 use Rattle.index.proofs.Stores.{entry-laid}
 use Rattle.index.proofs.put_entry.Goals as goal
-
-pub put_u64-requires : goal.put_u64-requires
-put_u64-requires c = omega (arith, entry-least c.args.form)
-
-pub put_address-requires : goal.put_address-requires
-put_address-requires c =
-    omega (arith, entry-least c.args.form)
-
-pub fletcher32_sixteen-sum-requires : goal.fletcher32_sixteen-sum-requires
-fletcher32_sixteen-sum-requires c =
-    omega (arith, entry-least c.args.form)
 
 pub returns : goal.returns
 returns c =

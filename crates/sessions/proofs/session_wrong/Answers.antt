@@ -25,11 +25,6 @@ returns-then-history-st c =
     let a = c.args in
     wrong-room _ a.s a.st c.end_of.ensures (ap not c.if-not-fitting.false) c.if-history-st.true
 
-pub pages_fit-requires : goal.pages_fit-requires
-pages_fit-requires c =
-    let w = numbers-right 0 c.args.s c.args.st c.end_of.ensures (ap not c.if-not-fitting.false) in
-    (omega (arith, w.touched), c.requires.allowed)
-
 pub returns : goal.returns
 returns c =
     let a = c.args in

@@ -1,5 +1,6 @@
 -- What would result is counted, and judged without a sum that could wrap.
 use native.Mathlib.Omega.{arith}
+use Rattle.rules.proofs.Range.{own-length}
 use Rattle.writing.proofs.Pages.{index-room, index_rises, index-paged, before-most, counted-there}
 use Rattle.writing.proofs.Room.{room-pages, room_entries, room-short, room_fine}
 use Rattle.writing.proofs.room_rows.Goals as goal
@@ -8,14 +9,14 @@ pub merged_count-before-requires : goal.merged_count-before-requires
 merged_count-before-requires c =
     let q = c.requires.0 in
     let x = c.index_in-x.ensures in
-    record { entries_in_bounds = (index-room q x, omega (arith, q.touched)); rising = index_rises q x; distinct = q.differ }
+    record { entries_in_bounds = index-room q x; rising = index_rises q x; distinct = q.differ }
 
 pub count_pages-would-requires : goal.count_pages-would-requires
 count_pages-would-requires c =
     let q = c.requires.0 in
     let x = c.index_in-x.ensures in
     let before = c.merged_count-before.ensures in
-    record { entries_in_bounds = (index-room q x, index_rises q x, omega (arith, q.touched), q.touched); before_value = (before, before-most q x before (omega (arith, q.touched)), index-paged q x, c.requires.1) }
+    record { entries_in_bounds = (index-room q x, index_rises q x, omega (arith, own-length c.args.st (omega (arith, q.touched)), q.touched)); before_value = (before, before-most q x before, index-paged q x, c.requires.1) }
 
 pub returns-then-would-gt-TOUCHED : goal.returns-then-would-gt-TOUCHED
 returns-then-would-gt-TOUCHED c =

@@ -2,10 +2,12 @@
 use Prim.Native.Nat.{◌-◌}
 use Rattle.rules.specs.Layout.{entries_in}
 use Rattle.touching.proofs.Loop.{Writing}
-use Rattle.touching.proofs.write_pages.Given as goal
+use Rattle.touching.proofs.Write.put.Given as goal
 
 abbrev pub invariant-loop-k : goal.invariant-loop-k
-invariant-loop-k l = Writing l.original l.s l.x (entries_in l.initial.history l.x) l.offset l.bytes l.m (record { history = l.initial.history; session = l.initial.t }) (record { history = l.history; session = l.t }) l.a l.k
+invariant-loop-k l =
+    let w = l.self in
+    Writing w.original.now w.setting w.index (entries_in l.initial.history w.index) w.offset w.bytes.now l.m (record { history = l.initial.history; session = l.initial.t }) (record { history = l.history; session = l.t }) l.a l.k
 
 abbrev pub decreases-loop-k : goal.decreases-loop-k
 decreases-loop-k l = l.m - l.k
