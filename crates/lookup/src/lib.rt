@@ -42,8 +42,7 @@ fn found_in(original: &[u8], history: &[u8], v: View, size: u64, address: u64) -
         return refused(10);
     }
     let length = numbers::below(page as usize, size as usize, address as usize) as u64;
-    let place = index::find(history, x, address);
-    if x.entries <= place {
+    let Some(place) = index::find(history, x, address) else {
         if (original.len() as u64) < address + length {
             return refused(20);
         }
@@ -53,7 +52,7 @@ fn found_in(original: &[u8], history: &[u8], v: View, size: u64, address: u64) -
             offset: address,
             length,
         };
-    }
+    };
     if view::page_wrong(history, v, address) {
         return refused(9);
     }

@@ -3,6 +3,7 @@ use mathlib.Core.Path.{◌≡◌, refl, ◌∙◌}
 use mathlib.Core.Bool.{Bool}
 use mathlib.Core.List.{List, []}
 use Prim.Native.Nat.{ℕ, ◌+◌, ◌*◌, ◌≤◌}
+use native.Mathlib.Nat.{mul-le-mul_right}
 use native.Mathlib.Omega.{arith}
 use lib.ListN.{length}
 use Rattle.rules.specs.Bytes.{tabulate}
@@ -20,9 +21,9 @@ use Rattle.view.specs.Seen.{Seen}
 use Rattle.view.specs.declared.View.{View}
 
 module _ {h : List ℕ} {s : Setting} {k : ℕ} {r : Record} (w : Standing h s k r) where
-  pub view_seen : {v : View} → v.index ≡ index_in s r → v.end + length v.own.now * s.form.page ≤ length h → Seen h v
+  pub view_seen : {v : View} → v.index ≡ index_in s r → {n : ℕ} → v.end + n * s.form.page ≤ length h → length v.own.now ≤ n → Seen h v
   unfolding index_in
-  view_seen {v} e l =
+  view_seen {v} e l few =
       let whole = w.sound in
       let q = w.right in
       record {
@@ -35,7 +36,7 @@ module _ {h : List ℕ} {s : Setting} {k : ℕ} {r : Record} (w : Standing h s k
         rising = rw e (index-rising h s r q);
         multiple = rw e (page-multiple h s r q);
         stored = rw e (λ i j. omega (arith, page-ahead h s r q i j, q.below, whole.inside));
-        owned = rw e l;
+        owned = rw e (omega (arith, mul-le-mul_right s.form.page few));
       }
 
 -- Its pages and bytes are those of the record's index.

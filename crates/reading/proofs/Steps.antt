@@ -1,12 +1,13 @@
 -- Rows and bytes of a read, from what its steps find.
-use mathlib.Core.Path.{◌≡◌, refl, ◌∙◌}
-use mathlib.Core.Bool.{Bool, true, false}
+use mathlib.Core.Path.{◌≡◌, ◌∙◌}
+use mathlib.Core.Bool.{false}
 use mathlib.Core.List.{List, []}
-use Prim.Native.Nat.{ℕ, ◌+◌, ◌-◌, ◌≤◌, ◌<◌}
+use Prim.Native.Nat.{ℕ, ◌+◌, ◌-◌, ◌≤◌}
 use native.Mathlib.Omega.{arith}
 use lib.Dec.{ltb}
 use lib.ListN.{length}
-use borrow.Author.Tests.{lt-ltb, le-ltb, ltb-true, ltb-false}
+use Rattle.std.proofs.lemmas.Bool.Decides.{nat_tests}
+use borrow.Author.Tests.{ltb-false}
 use Rattle.rules.specs.Bytes.{tabulate}
 use Rattle.rules.specs.Layout.{entries_in}
 use Rattle.rules.specs.View.{shown_byte, pages_shared}
@@ -22,17 +23,9 @@ use Rattle.reading.proofs.Seen.{view-bytes, no_own}
 
 -- ---- Row 10
 
-pub outside_far : (size at n : ℕ) → size < at → true ≡ read_outside size at n
-unfolding read_outside
-outside_far size at n h = rw (lt-ltb size (at + n) (omega arith))
-
 pub outside-near : (size at n : ℕ) → at ≤ size → ltb (size - at) n ≡ read_outside size at n
 unfolding read_outside
-outside-near size at n h = go (ltb size (at + n)) refl
-  where
-    go : (b : Bool) → ltb size (at + n) ≡ b → ltb (size - at) n ≡ b
-    go true e = lt-ltb (size - at) n (omega (arith, ltb-true size (at + n) e))
-    go false e = le-ltb (size - at) n (omega (arith, ltb-false size (at + n) e))
+outside-near size at n h = grind (arith, nat_tests)
 
 pub inside_fits : (size at n : ℕ) → read_outside size at n ≡ false → at + n ≤ size
 unfolding read_outside

@@ -16,10 +16,7 @@ use view::View;
 fn read_outside(size: u64, at: u64, n: u64) -> bool
     ensures { result ≡ read_outside size at n }
 {
-    if size < at {
-        return true;
-    }
-    size - at < n
+    size < at || size - at < n
 }
 
 // Rows 10 and 9 of a read of n bytes from an offset on, by the logical size and the view of what is read.

@@ -16,7 +16,7 @@ returns-in_err-judged c =
 pub range_rows-requires : goal.range_rows-requires
 range_rows-requires c =
     let w = c.in_ok-judged.ensures.standing in
-    (view_seen w c.index_in.ensures (omega arith), w.right.small)
+    (view_seen w c.index_in.ensures {n = 0} (omega arith) (omega arith), w.right.small)
 
 pub returns-in_err-range_rows : goal.returns-in_err-range_rows
 returns-in_err-range_rows c =
@@ -28,7 +28,7 @@ returns-in_err-range_rows c =
 pub put_view-requires : goal.put_view-requires
 put_view-requires c =
     let w = c.in_ok-judged.ensures.standing in
-    (view_seen w c.index_in.ensures (omega arith), omega (arith, c.in_ok-range_rows.ensures.inside, w.right.small))
+    (view_seen w c.index_in.ensures {n = 0} (omega arith) (omega arith), omega (arith, c.in_ok-range_rows.ensures.inside, w.right.small))
 
 pub returns : goal.returns
 returns c =

@@ -1,9 +1,13 @@
 -- A difference is compared where the sum could wrap.
-use Rattle.reading.proofs.Steps.{outside_far, outside-near}
+use native.Mathlib.Omega.{arith}
+use Rattle.std.proofs.lemmas.Bool.Decides.{nat_tests}
+use Rattle.rules.specs.Rows.{read_outside}
 use Rattle.reading.proofs.read_outside.Goals as goal
 
 pub returns-then-size-at : goal.returns-then-size-at
-returns-then-size-at c = outside_far _ _ c.args.n c.if-size-at.true
+unfolding read_outside
+returns-then-size-at c = grind (arith, nat_tests)
 
-pub returns : goal.returns
-returns c = outside-near _ _ c.args.n c.if-size-at.false
+pub returns-else-size-at : goal.returns-else-size-at
+unfolding read_outside
+returns-else-size-at c = grind (arith, nat_tests)

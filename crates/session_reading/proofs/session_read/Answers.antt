@@ -1,7 +1,8 @@
 -- Judged once; then the rows and the bytes of the session's view.
 use mathlib.Core.Path.{refl, ◌∙◌}
+use Prim.Native.Nat.{ℕ}
 use native.Mathlib.Omega.{arith}
-use Rattle.rules.proofs.Range.{own-length}
+use lib.ListN.{length-take}
 use Rattle.rules.proofs.Refusals.{refused, handed_on}
 use Rattle.reading.proofs.Seen.{view_seen}
 use Rattle.session_reading.proofs.Steps.{read_refused, begin_refused, rows_behind_lem, read_done}
@@ -15,7 +16,7 @@ returns-in_err-parent c =
 pub range_rows-requires : goal.range_rows-requires
 range_rows-requires c =
     let w = c.in_ok-parent.ensures.sound in
-    (view_seen w.parent c.index_in.ensures (rw (own-length c.args.st (omega (arith, w.touched))) w.room), w.small)
+    (view_seen w.parent c.index_in.ensures w.room (omega (arith, length-take {A = ℕ})), w.small)
 
 pub returns-in_err-range_rows : goal.returns-in_err-range_rows
 returns-in_err-range_rows c =
@@ -26,7 +27,7 @@ returns-in_err-range_rows c =
 pub put_view-requires : goal.put_view-requires
 put_view-requires c =
     let w = c.in_ok-parent.ensures.sound in
-    (view_seen w.parent c.index_in.ensures (rw (own-length c.args.st (omega (arith, w.touched))) w.room), omega (arith, c.in_ok-range_rows.ensures.inside, w.small))
+    (view_seen w.parent c.index_in.ensures w.room (omega (arith, length-take {A = ℕ})), omega (arith, c.in_ok-range_rows.ensures.inside, w.small))
 
 pub returns : goal.returns
 returns c =

@@ -5,10 +5,10 @@ use borrow.Author.Rules.{rules}
 use Rattle.writing.proofs.Pages.{ready, written_whole}
 use Rattle.writing.proofs.put_written.Goals as goal
 
-pub put-t-requires : goal.put-t-requires
-put-t-requires c =
+pub put-t-requires-clause-ready : goal.put-t-requires-clause-ready
+put-t-requires-clause-ready c =
     let full : length c.args.st.pages ≡ 256 = search rules in
-    record { ready = ready _ _ c.requires c.index_in.ensures full; bytes_bound = c.requires.near }
+    ready _ _ c.requires c.index_in.ensures full
 
 pub returns : goal.returns
 returns c =

@@ -1,7 +1,8 @@
 -- One row after the other, in the order of the call.
 use mathlib.Core.Path.{refl, sym, ◌∙◌}
+use Prim.Native.Nat.{ℕ}
 use native.Mathlib.Omega.{arith}
-use Rattle.rules.proofs.Range.{own-length}
+use lib.ListN.{length-take}
 use Rattle.rules.proofs.Refusals.{refused, number-handed_on}
 use Rattle.reading.proofs.Seen.{view_seen}
 use Rattle.writing.proofs.Steps.{near_enough, write_outside_lem, write_far, write-room, write_damaged, write_fine, writable}
@@ -29,7 +30,7 @@ returns-in_err-room_rows-clause-number c =
 pub range_wrong-requires : goal.range_wrong-requires
 range_wrong-requires c =
     let w = c.requires in
-    (view_seen w.parent c.index_in.ensures (rw (own-length c.args.st (omega (arith, w.touched))) w.room), near_enough _ _ (sym c.write_too_far.ensures ∙ c.if-write_too_far.false))
+    (view_seen w.parent c.index_in.ensures w.room (omega (arith, length-take {A = ℕ})), near_enough _ _ (sym c.write_too_far.ensures ∙ c.if-write_too_far.false))
 
 pub returns-then-range_wrong-clause-number : goal.returns-then-range_wrong-clause-number
 returns-then-range_wrong-clause-number c =
