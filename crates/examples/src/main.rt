@@ -81,12 +81,12 @@ fn show_session(rt: &impl Print, session: Session) -> io::Result<()> {
 fn show_page(rt: &impl Print, history: &[u8], revision: u64, address: u64) -> io::Result<()> {
     let found = lookup::look_up_place(&ORIGINAL, history, revision, address);
     say(rt, b"  look-up", number(found))?;
-    let Ok(place) = found else {
+    let Ok(page) = found else {
         return Ok(());
     };
-    say(rt, b"  its source", place.source as u64)?;
-    say(rt, b"  its offset", place.offset)?;
-    say(rt, b"  its length", place.length)
+    say(rt, b"  its source", page.source as u64)?;
+    say(rt, b"  its offset", page.offset)?;
+    say(rt, b"  its length", page.length)
 }
 
 // Where the newest revision's record and the whole history lie.

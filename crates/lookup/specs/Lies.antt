@@ -1,10 +1,25 @@
 -- A page's place in the original or in the history.
-use Rattle.std.specs.Prelude.{cond, List, ℕ, ◌+◌, ◌≤◌, eqb, length}
+use Rattle.std.specs.Prelude.{cond, List, ℕ, ◌+◌, ◌≤◌, eqb, length, Result, Ok, Err}
 use Rattle.rules.specs.Bytes.{part}
 use Rattle.rules.specs.Layout.{entries_in}
 use Rattle.rules.specs.Calls.{accepted, page_rows, found_page, not_found}
 use Rattle.rules.specs.declared.Index.{Index}
+use Rattle.rules.specs.Refusals.{number_of}
+use Rattle.rules.specs.declared.Refusal.{Refusal}
 use Rattle.rules.specs.declared.Found.{Found}
+use Rattle.lookup.specs.declared.Source.{Source}
+use Rattle.lookup.specs.declared.Source.TheVariants.{Original, History}
+use Rattle.lookup.specs.declared.Page.{Page}
+
+-- "0 for the original, 1 for the history".
+abbrev pub source_number : Source → ℕ
+source_number Original = 0
+source_number History = 1
+
+-- What a look-up answers, in the paper's numbers.
+abbrev pub found : Result Page Refusal → Found
+found (Ok place) = record { number = 0; source = source_number place.source; offset = place.offset; length = place.length }
+found (Err refusal) = not_found (number_of refusal)
 
 -- The slice that the page lies in, and the page.
 abbrev pub source_of : List ℕ → List ℕ → Found → List ℕ

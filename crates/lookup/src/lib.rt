@@ -4,11 +4,11 @@
 ghost use Rattle.std.specs.Prelude.{◌≡◌, true, cond, ◌+◌, ◌≤◌, eqb};
 ghost use Rattle.rules.specs.Layout.{page_allowed, limit};
 ghost use Rattle.rules.specs.Rows.{look_up_outside};
-ghost use Rattle.rules.specs.Calls.{not_found, look_up};
+ghost use Rattle.rules.specs.Calls.{look_up};
 ghost use Rattle.view.specs.Seen.{Seen};
-ghost use Rattle.lookup.specs.Lies.{Lies, look_up_in, page_at};
+ghost use Rattle.lookup.specs.Lies.{found, Lies, look_up_in, page_at};
 
-use rules::Found;
+use rules::Refusal;
 use view::View;
 
 // Row 10 of a look-up.
@@ -19,61 +19,71 @@ fn look_up_outside(page: u64, size: u64, address: u64) -> bool
     (size <= address) | !numbers::multiple(address, page)
 }
 
-fn refused(number: u64) -> Found
-    ensures { result ≡ not_found number }
-{
-    Found {
-        number,
-        source: 0,
-        offset: 0,
-        length: 0,
-    }
+// The slice that a page lies in.
+#[derive(Clone, Copy, Debug, PartialEq, Eq)]
+pub enum Source {
+    Original,
+    History,
+}
+
+// A page as a part of one of the two slices.
+#[derive(Clone, Copy)]
+pub struct Page {
+    pub source: Source,
+    pub offset: u64,
+    pub length: u64,
 }
 
 // Where the page lies, once rows 1 to 8 have passed: rows 10, 20 and 9, and then the place.
-fn found_in(original: &[u8], history: &[u8], v: View, size: u64, address: u64) -> Found
+fn found_in(
+    original: &[u8],
+    history: &[u8],
+    v: View,
+    size: u64,
+    address: u64,
+) -> Result<Page, Refusal>
     requires { (Seen history.now v) × (size ≤ limit) }
-    ensures value { result ≡ look_up_in original.now history.now v.entry.index size address }
-    ensures lies { Lies original.now history.now result }
+    ensures value { found result ≡ look_up_in original.now history.now v.entry.index size address }
+    ensures lies { Lies original.now history.now (found result) }
 {
     let x = v.index;
     let page = x.form.page;
     if look_up_outside(page, size, address) {
-        return refused(10);
+        return Err(Refusal::Outside);
     }
     let length = numbers::below(page as usize, size as usize, address as usize) as u64;
     let Some(place) = index::find(history, x, address) else {
         if (original.len() as u64) < address + length {
-            return refused(20);
+            return Err(Refusal::NotInOriginal);
         }
-        return Found {
-            number: 0,
-            source: 0,
+        return Ok(Page {
+            source: Source::Original,
             offset: address,
             length,
-        };
+        });
     };
     if view::page_wrong(history, v, address) {
-        return refused(9);
+        return Err(Refusal::PageSum);
     }
     let e = index::entry(history, x, place);
-    Found {
-        number: 0,
-        source: 1,
+    Ok(Page {
+        source: Source::History,
         offset: e.physical,
         length,
-    }
+    })
 }
 
-// Look-up 1 to 8, 10, 20, 9: the number, the source (0 the original, 1 the history), and where in it the page lies.
-pub fn look_up_place(original: &[u8], history: &[u8], revision: u64, address: u64) -> Found
-    ensures value { result ≡ look_up original.now history.now revision address }
-    ensures lies { Lies original.now history.now result }
+// Where the page lies. Look-up 1 to 8, 10, 20, 9.
+pub fn look_up_place(
+    original: &[u8],
+    history: &[u8],
+    revision: u64,
+    address: u64,
+) -> Result<Page, Refusal>
+    ensures value { found result ≡ look_up original.now history.now revision address }
+    ensures lies { Lies original.now history.now (found result) }
 {
-    let judged = revisions::judge(original, history, revision);
-    if judged.number != 0 {
-        return refused(judged.number);
-    }
+    let judged = revisions::judge(original, history, revision)?;
     let r = judged.record;
     let v = View {
         index: records::index_in(judged.setting, r),
@@ -89,11 +99,13 @@ pub fn look_up<'a>(original: &'a [u8], history: &'a [u8], revision: u64, address
     ensures lies { (result.ref_ptr.0 ≡ cond (eqb (look_up original.now history.now revision address).source 1) history.entry.ref_ptr.0 original.entry.ref_ptr.0)
         × (result.ref_ptr.1 ≡ cond (eqb (look_up original.now history.now revision address).source 1) history.entry.ref_ptr.1 original.entry.ref_ptr.1 + (look_up original.now history.now revision address).offset) }
 {
-    let f = look_up_place(original, history, revision, address);
-    let start = f.offset as usize;
-    let end = start + f.length as usize;
-    if f.source == 1 {
-        return &history[start..end];
+    let Ok(page) = look_up_place(original, history, revision, address) else {
+        return &original[..0];
+    };
+    let start = page.offset as usize;
+    let end = start + page.length as usize;
+    match page.source {
+        Source::Original => &original[start..end],
+        Source::History => &history[start..end],
     }
-    &original[start..end]
 }

@@ -16,7 +16,7 @@ ghost use Rattle.rules.specs.Calls.{Reply, Outcome, create, open_for_writing, wr
 
 use browsing::Stands;
 use checking::Fault;
-use lookup::Place;
+use lookup::Page;
 use rules::{Browsed, Checked, Found, Part, RecordTold, Refusal, SettingTold, Step};
 use store::{Answer, Session};
 
@@ -32,15 +32,15 @@ fn number(answered: Result<(), Refusal>) -> u64
     }
 }
 
-fn found(answered: Result<Place, Refusal>) -> Found
+fn found(answered: Result<Page, Refusal>) -> Found
     ensures { result ≡ found answered }
 {
     match answered {
-        Ok(place) => Found {
+        Ok(page) => Found {
             number: 0,
-            source: place.source as u64,
-            offset: place.offset,
-            length: place.length,
+            source: page.source as u64,
+            offset: page.offset,
+            length: page.length,
         },
         Err(refusal) => Found {
             number: u64::from(refusal),

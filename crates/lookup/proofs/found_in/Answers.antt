@@ -1,4 +1,5 @@
 -- Each row is told by its own test; where none holds, the search tells which slice has the page.
+use mathlib.Core.Path.{refl}
 use native.Mathlib.Omega.{arith}
 use Rattle.view.proofs.Pages.{entry-room}
 use Rattle.lookup.proofs.Place.{found_outside, found_nowhere, found-original, found_damaged, found-stored}
@@ -7,12 +8,12 @@ use Rattle.lookup.proofs.found_in.Goals as goal
 pub returns-then-look_up_outside-clause-value : goal.returns-then-look_up_outside-clause-value
 returns-then-look_up_outside-clause-value c =
     let a = c.args in
-    found_outside _ _ a.v.index a.size a.address c.look_up_outside.ensures c.if-look_up_outside.true c.refused.ensures
+    found_outside _ _ a.v.index a.size a.address c.look_up_outside.ensures c.if-look_up_outside.true refl
 
 pub returns-then-original-address-clause-value : goal.returns-then-original-address-clause-value
 returns-then-original-address-clause-value c =
     let a = c.args in
-    found_nowhere _ _ a.v.index a.size a.address c.look_up_outside.ensures c.if-look_up_outside.false c.below-length.ensures c.in_default.ensures.found c.if-original-address.true c.refused-then-original-address.ensures
+    found_nowhere _ _ a.v.index a.size a.address c.look_up_outside.ensures c.if-look_up_outside.false c.below-length.ensures c.in_default.ensures.found c.if-original-address.true refl
 
 pub returns-in_default-clause-value : goal.returns-in_default-clause-value
 returns-in_default-clause-value c =
@@ -23,7 +24,7 @@ pub returns-then-page_wrong-clause-value : goal.returns-then-page_wrong-clause-v
 returns-then-page_wrong-clause-value c =
     let a = c.args in
     let found = c.in-Some.ensures.place in
-    found_damaged _ _ a.v.index a.size a.address c.look_up_outside.ensures c.if-look_up_outside.false c.below-length.ensures found.0 found.1 c.page_wrong.ensures c.if-page_wrong.true c.refused-then-page_wrong.ensures
+    found_damaged _ _ a.v.index a.size a.address c.look_up_outside.ensures c.if-look_up_outside.false c.below-length.ensures found.0 found.1 c.page_wrong.ensures c.if-page_wrong.true refl
 
 pub returns-clause-value : goal.returns-clause-value
 returns-clause-value c =
