@@ -6,6 +6,7 @@ ghost use Rattle.rules.specs.Calls.{check_revisions, check};
 ghost use Rattle.whole.specs.Sound.{Sound};
 ghost use Rattle.checking.specs.Faults.{checked};
 
+use records::Revision;
 use rules::{Refusal, Setting};
 
 // A fault, with its revision and its entry; 0 where none is named.
@@ -34,7 +35,7 @@ fn check_revisions(history: &[u8], s: Setting) -> Result<(), Fault>
                 break 'revisions;
             }
         };
-        let x = records::index_in(s, record);
+        let x = Revision { setting: s, record }.index();
         for j in 0..x.entries {
             let e = index::entry(history, x, j);
             if parts::page_sum_wrong(history, s.form.page, e) {

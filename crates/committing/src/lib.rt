@@ -24,6 +24,7 @@ ghost use Rattle.layout.specs.Paged.{Paged, farthest};
 ghost use Rattle.whole.specs.Places.{Extensible};
 ghost use Rattle.committing.specs.Stored.{Small, Standing, Committable, texts_stored};
 
+use records::Revision;
 use rules::{Form, Record, Refusal, Setting, State};
 
 // ---- Rows
@@ -81,11 +82,10 @@ fn no_room(room: usize, s: Setting, r: Record) -> bool
     (room as u64) < layout::end_of(form, t.address, t.size)
 }
 
-// A commit that rows have passed: what the history says of itself, the parent's record and the one to be stored.
+// A commit that rows have passed: the session's parent, and the record to be stored.
 #[derive(Clone, Copy)]
 struct Prepared {
-    setting: Setting,
-    parent: Record,
+    parent: Revision,
     record: Record,
 }
 
@@ -98,12 +98,11 @@ fn prepare(
     comment: &[u8],
 ) -> Result<Prepared, Refusal>
     ensures number { told result ≡ commit_rows st history.now time.now name.now comment.now }
-    ensures standing { IfOk result (λ p. Committable history.now p.setting st p.parent p.record time.now name.now comment.now) }
+    ensures standing { IfOk result (λ p. Committable history.now p.parent.setting st p.parent.record p.record time.now name.now comment.now) }
 {
-    let held = sessions::judge_alone(st, history)?;
-    let setting = held.setting;
-    let parent = held.record;
-    let x = records::index_in(setting, parent);
+    let parent = sessions::judge_alone(st, history)?;
+    let s = parent.setting;
+    let x = parent.index();
     let entries = merge::merged_count(history, x, &st.pages[..st.n as usize]) as u64;
     if layout::ENTRIES < entries {
         return Err(Refusal::TooMany);
@@ -111,36 +110,26 @@ fn prepare(
     if texts_wrong(time, name, comment) {
         return Err(Refusal::Texts);
     }
-    let record = record_stored(
-        setting,
-        st,
-        entries,
-        name.len() as u64,
-        comment.len() as u64,
-    );
-    if no_room(history.len(), setting, record) {
+    let record = record_stored(s, st, entries, name.len() as u64, comment.len() as u64);
+    if no_room(history.len(), s, record) {
         return Err(Refusal::NoRoom);
     }
-    Ok(Prepared {
-        setting,
-        parent,
-        record,
-    })
+    Ok(Prepared { parent, record })
 }
 
 // ---- Stores, each behind the one before it
 
 // The record's front, and the merged index, which is put together where it stands from what lies ahead of the record.
 fn put_indexed(history: &mut [u8], st: State, p: Prepared, time: &[u8], user: u32)
-    requires { (Standing history.old p.setting st p.parent p.record) × (length time.now ≡ 16) }
-    ensures { history.new ≡ laid history.old p.record.address
-        (front_bytes p.setting.form p.record time.now user
-        ++ index_bytes p.setting.form (merged_index history.old p.setting st (index_of history.old p.setting.form p.parent))) }
+    requires { (Standing history.old p.parent.setting st p.parent.record p.record) × (length time.now ≡ 16) }
+    ensures { let s = p.parent.setting in
+        history.new ≡ laid history.old p.record.address
+        (front_bytes s.form p.record time.now user
+        ++ index_bytes s.form (merged_index history.old s st (index_of history.old s.form p.parent.record))) }
 {
-    let s = p.setting;
-    let form = s.form;
+    let form = p.parent.setting.form;
     let r = p.record;
-    let x = records::index_in(s, p.parent);
+    let x = p.parent.index();
     let to = r.address as usize + layout::front_width(form);
     records::put_front(history, form, r, time, user);
     merge::put_merged(history, x, &st.pages[..st.n as usize], st.end as usize, to);
@@ -183,7 +172,7 @@ pub fn commit(
     ensures { outcome st result history.new ≡ commit st history.old time.now user name.now comment.now }
 {
     let p = prepare(st, history, time, name, comment)?;
-    let s = p.setting;
+    let s = p.parent.setting;
     let r = p.record;
     put_indexed(history, st, p, time, user);
     put_texts(history, s.form, r, name, comment);

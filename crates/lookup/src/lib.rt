@@ -83,14 +83,13 @@ pub fn look_up_place(
     ensures value { found result ≡ look_up original.now history.now revision address }
     ensures lies { Lies original.now history.now (found result) }
 {
-    let judged = revisions::judge(original, history, revision)?;
-    let r = judged.record;
+    let sought = revisions::judge(original, history, revision)?;
     let v = View {
-        index: records::index_in(judged.setting, r),
+        index: sought.index(),
         end: 0,
         own: &[],
     };
-    found_in(original, history, v, r.logical, address)
+    found_in(original, history, v, sought.record.logical, address)
 }
 
 // The page itself, as a part of one of the two slices; the empty part at the original's start where it is refused.

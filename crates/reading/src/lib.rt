@@ -46,14 +46,13 @@ pub fn read(
     ensures { ◌≡◌ {A = Reply} (record { number = told result; bytes = out.new })
         (read original.now history.now revision at out.old) }
 {
-    let judged = revisions::judge(original, history, revision)?;
-    let r = judged.record;
+    let read = revisions::judge(original, history, revision)?;
     let v = View {
-        index: records::index_in(judged.setting, r),
+        index: read.index(),
         end: 0,
         own: &[],
     };
-    range_rows(history, v, r.logical, at, out.len())?;
+    range_rows(history, v, read.record.logical, at, out.len())?;
     view::put_view(out, original, history, v, at as usize);
     Ok(())
 }

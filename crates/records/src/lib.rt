@@ -268,6 +268,29 @@ pub struct Revision {
     pub record: Record,
 }
 
+impl Revision {
+    // Where its index stands; of a revision with no entries, none.
+    pub fn index(self) -> Index
+        requires { (self.record.address ≤ limit) × (self.record.entries ≤ entry_limit) }
+        ensures { result ≡ index_in self.setting self.record }
+    {
+        let form = self.setting.form;
+        let r = self.record;
+        if r.entries == 0 {
+            return Index {
+                form,
+                at: 0,
+                entries: 0,
+            };
+        }
+        Index {
+            form,
+            at: r.address as usize + layout::front_width(form),
+            entries: r.entries as usize,
+        }
+    }
+}
+
 // What stands in revision 0's place.
 pub fn no_record(s: Setting) -> Record
     ensures { result ≡ no_record s }
@@ -337,24 +360,4 @@ pub fn passed(history: &[u8], s: Setting, k: u64) -> Record
 {
     let place = whole::location_of(history, s, k);
     record_at(history, s.form, place.address as usize, place.size)
-}
-
-// Where the index of a record stands.
-pub fn index_in(s: Setting, r: Record) -> Index
-    requires { (r.address ≤ limit) × (r.entries ≤ entry_limit) }
-    ensures { result ≡ index_in s r }
-{
-    let form = s.form;
-    if r.entries == 0 {
-        return Index {
-            form,
-            at: 0,
-            entries: 0,
-        };
-    }
-    Index {
-        form,
-        at: r.address as usize + layout::front_width(form),
-        entries: r.entries as usize,
-    }
 }

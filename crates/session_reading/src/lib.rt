@@ -19,7 +19,7 @@ pub fn session_read(
 {
     let parent = sessions::judge(st, original, history)?;
     let v = View {
-        index: records::index_in(parent.setting, parent.record),
+        index: parent.index(),
         end: st.end as usize,
         own: &st.pages[..st.n as usize],
     };

@@ -37,7 +37,7 @@ fn room_rows(
         told result ≡ row 14 (too_many (index_of history.now s.form parent.record) would)
         then row 15 (no_room (length history.now) (own_address s st (length would))) }
 {
-    let x = records::index_in(parent.setting, parent.record);
+    let x = parent.index();
     let own = &st.pages[..st.n as usize];
     let before = merge::merged_count(history, x, own);
     let would = touching::count_pages(history, x, own, before, at, n);
@@ -67,7 +67,7 @@ fn write_rows(st: State, history: &[u8], parent: Revision, at: u64, n: usize) ->
     }
     room_rows(st, history, parent, at as usize, n)?;
     let v = View {
-        index: records::index_in(parent.setting, parent.record),
+        index: parent.index(),
         end: st.end as usize,
         own: &st.pages[..st.n as usize],
     };
@@ -95,7 +95,7 @@ fn put_written(
     let write = Write {
         original,
         setting: parent.setting,
-        index: records::index_in(parent.setting, parent.record),
+        index: parent.index(),
         offset: at,
         bytes,
     };

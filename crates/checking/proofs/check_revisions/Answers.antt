@@ -11,15 +11,15 @@ revisions-init c = revisions-start _ _
 pub loop-j-init : goal.loop-j-init
 loop-j-init c =
     let judged = c.in-Ok.ensures in
-    entries-start c.revisions.invariant (search rules) judged.number refl judged.sound c.index_in-x.ensures
+    entries-start c.revisions.invariant (search rules) judged.number refl judged.sound c.index-x.ensures
 
 pub entry-e-requires : goal.entry-e-requires
-entry-e-requires c = (index-inside c.in-Ok.ensures.sound c.index_in-x.ensures, search rules)
+entry-e-requires c = (index-inside c.in-Ok.ensures.sound c.index-x.ensures, search rules)
 
 pub page_sum_wrong-requires : goal.page_sum_wrong-requires
 page_sum_wrong-requires c =
     let w = c.in-Ok.ensures.sound in
-    (page-inside w c.index_in-x.ensures _ (search rules) c.entry-e.ensures, w.sound.short)
+    (page-inside w c.index-x.ensures _ (search rules) c.entry-e.ensures, w.sound.short)
 
 pub loop-j-preserved : goal.loop-j-preserved
 loop-j-preserved c = entries_turn c.loop-j.invariant (search rules) c.entry-e.ensures c.page_sum_wrong.ensures c.if-page_sum_wrong.false

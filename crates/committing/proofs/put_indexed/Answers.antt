@@ -19,10 +19,10 @@ pub put_merged-requires : goal.put_merged-requires
 put_merged-requires c =
     let q = c.requires.0 in
     let to = ap (λ (n : ℕ). c.args.p.record.address + n) c.front_width.ensures in
-    mergeable q _ c.requires.1 _ _ c.put_front.ensures c.index_in-x.ensures to (omega (arith, q.session.touched))
+    mergeable q _ c.requires.1 _ _ c.put_front.ensures c.index-x.ensures to (omega (arith, q.session.touched))
 
 pub returns : goal.returns
 returns c =
     let q = c.requires.0 in
     let to = ap (λ (n : ℕ). c.args.p.record.address + n) c.front_width.ensures in
-    indexed-laid q _ c.requires.1 _ _ c.put_front.ensures _ c.index_in-x.ensures to (omega (arith, q.session.touched)) c.put_merged.ensures
+    indexed-laid q _ c.requires.1 _ _ c.put_front.ensures _ c.index-x.ensures to (omega (arith, q.session.touched)) c.put_merged.ensures

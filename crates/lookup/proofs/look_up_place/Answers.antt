@@ -6,18 +6,18 @@ use Rattle.reading.proofs.Seen.{view_seen}
 use Rattle.lookup.proofs.Place.{look_refused, look-found}
 use Rattle.lookup.proofs.look_up_place.Goals as goal
 
-pub returns-in_err-judged-clause-value : goal.returns-in_err-judged-clause-value
-returns-in_err-judged-clause-value c =
+pub returns-in_err-sought-clause-value : goal.returns-in_err-sought-clause-value
+returns-in_err-sought-clause-value c =
     let a = c.args in
-    rw (handed_on _ _ c.from_residual.ensures.1) (look_refused _ _ a.revision a.address c.in_err-judged.ensures.number (refused _) refl)
+    rw (handed_on _ _ c.from_residual.ensures.1) (look_refused _ _ a.revision a.address c.in_err-sought.ensures.number (refused _) refl)
 
 pub found_in-requires : goal.found_in-requires
 found_in-requires c =
-    let w = c.in_ok-judged.ensures.standing in
-    (view_seen w c.index_in.ensures {n = 0} (omega arith) (omega arith), w.right.small)
+    let w = c.in_ok-sought.ensures.standing in
+    (view_seen w c.index.ensures {n = 0} (omega arith) (omega arith), w.right.small)
 
 pub returns-clause-value : goal.returns-clause-value
 returns-clause-value c =
     let a = c.args in
-    let judged = c.in_ok-judged.ensures in
-    look-found _ _ a.revision a.address judged.standing c.index_in.ensures judged.number refl c.found_in.ensures.value
+    let judged = c.in_ok-sought.ensures in
+    look-found _ _ a.revision a.address judged.standing c.index.ensures judged.number refl c.found_in.ensures.value

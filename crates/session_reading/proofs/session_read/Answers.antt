@@ -16,21 +16,21 @@ returns-in_err-parent c =
 pub range_rows-requires : goal.range_rows-requires
 range_rows-requires c =
     let w = c.in_ok-parent.ensures.sound in
-    (view_seen w.parent c.index_in.ensures w.room (omega (arith, length-take {A = ℕ})), w.small)
+    (view_seen w.parent c.index.ensures w.room (omega (arith, length-take {A = ℕ})), w.small)
 
 pub returns-in_err-range_rows : goal.returns-in_err-range_rows
 returns-in_err-range_rows c =
     let judged = c.in_ok-parent.ensures in
     let a = c.args in
-    rw (handed_on _ _ c.from_residual-in_err-range_rows.ensures.1) (read_refused a.st _ _ a.at _ (rows_behind_lem a.st _ _ a.at a.out.now judged.sound c.index_in.ensures judged.number refl c.in_err-range_rows.ensures.number) (refused _))
+    rw (handed_on _ _ c.from_residual-in_err-range_rows.ensures.1) (read_refused a.st _ _ a.at _ (rows_behind_lem a.st _ _ a.at a.out.now judged.sound c.index.ensures judged.number refl c.in_err-range_rows.ensures.number) (refused _))
 
 pub put_view-requires : goal.put_view-requires
 put_view-requires c =
     let w = c.in_ok-parent.ensures.sound in
-    (view_seen w.parent c.index_in.ensures w.room (omega (arith, length-take {A = ℕ})), omega (arith, c.in_ok-range_rows.ensures.inside, w.small))
+    (view_seen w.parent c.index.ensures w.room (omega (arith, length-take {A = ℕ})), omega (arith, c.in_ok-range_rows.ensures.inside, w.small))
 
 pub returns : goal.returns
 returns c =
     let judged = c.in_ok-parent.ensures in
     let a = c.args in
-    read_done a.st _ _ a.at _ judged.sound c.index_in.ensures judged.number refl c.in_ok-range_rows.ensures.number refl c.put_view.ensures
+    read_done a.st _ _ a.at _ judged.sound c.index.ensures judged.number refl c.in_ok-range_rows.ensures.number refl c.put_view.ensures

@@ -8,9 +8,9 @@ use Rattle.writing.proofs.put_written.Goals as goal
 pub put-t-requires-clause-ready : goal.put-t-requires-clause-ready
 put-t-requires-clause-ready c =
     let full : length c.args.st.pages ≡ 256 = search rules in
-    ready _ _ c.requires c.index_in.ensures full
+    ready _ _ c.requires c.index.ensures full
 
 pub returns : goal.returns
 returns c =
     let a = c.args in
-    written_whole _ _ a.parent.setting a.st a.parent.record a.at _ c.index_in.ensures c.put-t.ensures c.max-size.ensures
+    written_whole _ _ a.parent.setting a.st a.parent.record a.at _ c.index.ensures c.put-t.ensures c.max-size.ensures

@@ -8,32 +8,32 @@ use Rattle.writing.proofs.room_rows.Goals as goal
 pub merged_count-before-requires : goal.merged_count-before-requires
 merged_count-before-requires c =
     let q = c.requires.0 in
-    let x = c.index_in-x.ensures in
+    let x = c.index-x.ensures in
     record { entries_in_bounds = index-room q x; rising = index_rises q x; distinct = q.differ }
 
 pub count_pages-would-requires : goal.count_pages-would-requires
 count_pages-would-requires c =
     let q = c.requires.0 in
-    let x = c.index_in-x.ensures in
+    let x = c.index-x.ensures in
     let before = c.merged_count-before.ensures in
     record { entries_in_bounds = (index-room q x, index_rises q x, omega (arith, own-length c.args.st (omega (arith, q.touched)), q.touched)); before_value = (before, before-most q x before, index-paged q x, c.requires.1) }
 
 pub returns-then-would-gt-TOUCHED : goal.returns-then-would-gt-TOUCHED
 returns-then-would-gt-TOUCHED c =
     let q = c.requires.0 in
-    room-pages _ _ _ (counted-there q c.index_in-x.ensures _ _ _ c.count_pages-would.ensures) c.if-would-gt-TOUCHED.true
+    room-pages _ _ _ (counted-there q c.index-x.ensures _ _ _ c.count_pages-would.ensures) c.if-would-gt-TOUCHED.true
 
 pub returns-then-would-gt-ENTRIES : goal.returns-then-would-gt-ENTRIES
 returns-then-would-gt-ENTRIES c =
     let q = c.requires.0 in
-    room_entries _ _ _ (counted-there q c.index_in-x.ensures _ _ _ c.count_pages-would.ensures) c.if-would-gt-TOUCHED.false c.if-would-gt-ENTRIES.true
+    room_entries _ _ _ (counted-there q c.index-x.ensures _ _ _ c.count_pages-would.ensures) c.if-would-gt-TOUCHED.false c.if-would-gt-ENTRIES.true
 
 pub returns-then-history-st : goal.returns-then-history-st
 returns-then-history-st c =
     let q = c.requires.0 in
-    room-short _ _ _ (counted-there q c.index_in-x.ensures _ _ _ c.count_pages-would.ensures) c.if-would-gt-TOUCHED.false c.if-would-gt-ENTRIES.false c.if-history-st.true
+    room-short _ _ _ (counted-there q c.index-x.ensures _ _ _ c.count_pages-would.ensures) c.if-would-gt-TOUCHED.false c.if-would-gt-ENTRIES.false c.if-history-st.true
 
 pub returns : goal.returns
 returns c =
     let q = c.requires.0 in
-    room_fine _ _ _ (counted-there q c.index_in-x.ensures _ _ _ c.count_pages-would.ensures) c.if-would-gt-TOUCHED.false c.if-would-gt-ENTRIES.false c.if-history-st.false
+    room_fine _ _ _ (counted-there q c.index-x.ensures _ _ _ c.count_pages-would.ensures) c.if-would-gt-TOUCHED.false c.if-would-gt-ENTRIES.false c.if-history-st.false

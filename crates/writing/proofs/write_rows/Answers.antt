@@ -30,15 +30,15 @@ returns-in_err-room_rows-clause-number c =
 pub range_wrong-requires : goal.range_wrong-requires
 range_wrong-requires c =
     let w = c.requires in
-    (view_seen w.parent c.index_in.ensures w.room (omega (arith, length-take {A = ℕ})), near_enough _ _ (sym c.write_too_far.ensures ∙ c.if-write_too_far.false))
+    (view_seen w.parent c.index.ensures w.room (omega (arith, length-take {A = ℕ})), near_enough _ _ (sym c.write_too_far.ensures ∙ c.if-write_too_far.false))
 
 pub returns-then-range_wrong-clause-number : goal.returns-then-range_wrong-clause-number
 returns-then-range_wrong-clause-number c =
     let a = c.args in
-    write_damaged a.st _ a.parent.setting a.parent.record a.at a.n c.if-st-at.false c.write_too_far.ensures c.if-write_too_far.false c.in_ok-room_rows.ensures refl c.requires c.index_in.ensures c.range_wrong.ensures c.if-range_wrong.true
+    write_damaged a.st _ a.parent.setting a.parent.record a.at a.n c.if-st-at.false c.write_too_far.ensures c.if-write_too_far.false c.in_ok-room_rows.ensures refl c.requires c.index.ensures c.range_wrong.ensures c.if-range_wrong.true
 
 pub returns : goal.returns
 returns c =
     let a = c.args in
     let room = c.in_ok-room_rows.ensures in
-    record { number = write_fine a.st _ a.parent.setting a.parent.record a.at a.n c.if-st-at.false c.write_too_far.ensures c.if-write_too_far.false room refl c.requires c.index_in.ensures c.range_wrong.ensures c.if-range_wrong.false; fits = writable a.st _ a.parent.setting a.parent.record a.at a.n c.if-st-at.false c.write_too_far.ensures c.if-write_too_far.false room refl c.requires }
+    record { number = write_fine a.st _ a.parent.setting a.parent.record a.at a.n c.if-st-at.false c.write_too_far.ensures c.if-write_too_far.false room refl c.requires c.index.ensures c.range_wrong.ensures c.if-range_wrong.false; fits = writable a.st _ a.parent.setting a.parent.record a.at a.n c.if-st-at.false c.write_too_far.ensures c.if-write_too_far.false room refl c.requires }
