@@ -2,7 +2,6 @@
 use mathlib.Core.Bool.{false≢true}
 use native.Mathlib.Omega.{arith}
 use Rattle.rules.proofs.Places.{end-behind}
-use Rattle.whole.proofs.Whole.{lies-right, lies_wrong}
 use Rattle.whole.proofs.lies.Goals as goal
 
 pub returns-then-room-s : goal.returns-then-room-s
@@ -14,11 +13,3 @@ pub returns-then-room-s-2 : goal.returns-then-room-s-2
 returns-then-room-s-2 c =
     let s = c.args.s in
     (λ e. absurd (false≢true e), λ e w. omega (arith, w.ends, end-behind s.form s.address s.size))
-
-pub returns : goal.returns
-returns c =
-    let a = c.args in
-    let header = c.header_end.ensures in
-    let end = c.end_of.ensures in
-    let least = c.whole_size.ensures in
-    (lies-right a.room a.s header end least, lies_wrong a.room a.s header end least)
