@@ -1,5 +1,5 @@
--- The loops over places: the search by halves among addresses that rise, the one by blocks and then one by one among a session's pages,
--- and whether these rise.
+-- The searches for places: by halves among addresses that rise, by blocks and then one by one among a session's pages, and whether
+-- these rise.
 use mathlib.Core.Path.{◌≡◌, refl, sym, ap, ◌∙◌}
 use mathlib.Core.Bool.{Bool, true, false, ◌||◌, true≢false, or-false}
 use mathlib.Core.List.{List, [], ◌∷◌, ◌++◌}
@@ -7,15 +7,13 @@ use mathlib.Core.Logic.{⊎_elim}
 use Prim.Native.Nat.{ℕ, suc, zero, ◌+◌, ◌-◌, ◌*◌, ◌/◌, ◌%◌, ◌≤◌, ◌<◌}
 use native.Mathlib.Nat.{eq-or-lt_of_le}
 use native.Mathlib.Omega.{arith}
-use borrow.Author.Count.{below_more}
 use borrow.Author.Tests.{eq-eqb, ltb-true}
 use denote.Ref.{Bor}
 use lib.Dec.{ltb}
 use lib.ListN.{length, take, drop, get_or, length-drop}
 use lib.Seq.{length-take-le, get_or-take, get_or-drop}
 use Rattle.std.specs.Prelude.{Option, None, Some, IfSome, ◌==◌, nat_lt}
-use Rattle.std.specs.List.{list_any, IsSubsliceAt, AllWithin, HoldsAt, AllAdjacentBelow}
-use Rattle.std.specs.List.{slice_get}
+use Rattle.std.specs.List.{slice_get, list_any, IsSubsliceAt, AllWithin, HoldsAt, AllAdjacentBelow}
 use Rattle.std.proofs.lemmas.Option.{none-some, slice_get_cases}
 use Rattle.std.specs.Iterator.Runs.{Run}
 use Rattle.std.proofs.iter.runs.Made.{at-is}
@@ -34,26 +32,6 @@ part-start xs address high e = record {
   below = λ k h. absurd (omega arith);
   above = λ k h l. absurd (omega arith);
 }
-
-module _ {xs : List ℕ} {address low high : ℕ} (rising : Rising xs) (b : Parted xs address low high) (middle : ℕ) (from : low ≤ middle) (to : middle < high) {x : ℕ} (e : x ≡ get_or xs middle 0) where
-  pub part_upper : x < address → Parted xs address (middle + 1) high
-  part_upper h = record {
-    ordered = omega arith;
-    within = b.within;
-    below = below_more _ _ (λ k l. omega (arith, rising k middle l (omega (arith, b.within)))) (omega arith);
-    above = b.above;
-  }
-
-  pub part_lower : address ≤ x → Parted xs address low middle
-  part_lower h = record {
-    ordered = from;
-    within = omega (arith, b.within);
-    below = b.below;
-    above = λ k l m. ⊎_elim (λ (q : middle ≡ k). rw q at (rw e at h)) (λ (g : middle < k). omega (arith, rising middle k g m)) (eq-or-lt_of_le l);
-  }
-
-pub part_end : {xs : List ℕ} {address low high : ℕ} → Parted xs address low high → high ≤ low → Parted xs address low low
-part_end {xs} {address} {low} {high} b l = let e : high ≡ low = omega (arith, b.ordered) in rw e at b
 
 -- The page stands at the place that was found, or nowhere.
 module _ {xs : List ℕ} {page place : ℕ} (b : Parted xs page place place) where

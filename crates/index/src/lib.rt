@@ -17,7 +17,7 @@ ghost use Rattle.rules.specs.Layout.{
 };
 ghost use Rattle.rules.specs.Orders.{Rising};
 ghost use Rattle.rules.specs.View.{place_of, has, logicals, has_page};
-ghost use Rattle.index.specs.Places.{Parted, Without};
+ghost use Rattle.index.specs.Places.{Searchable, Parted, Without};
 
 use rules::{Entry, Form, Index};
 
@@ -101,8 +101,7 @@ pub fn logical(history: &[u8], x: Index, place: usize) -> u64
 // The place of the first entry whose address is not below another. It is searched by halves.
 // By hand: the library's `partition_point` is of a slice, and the entries stand as bytes.
 pub fn place_from(history: &[u8], x: Index, address: u64) -> usize
-    requires entries_in_bounds { x.at + entries_width x.form x.entries ≤ length history.now }
-    requires rising { Rising (logicals (entries_in history.now x)) }
+    requires { Searchable history.now x }
     ensures { Parted (logicals (entries_in history.now x)) address result result }
 {
     let mut low = 0;
@@ -120,8 +119,7 @@ pub fn place_from(history: &[u8], x: Index, address: u64) -> usize
 
 // The place of a page, where it has an entry.
 pub fn find(history: &[u8], x: Index, page: u64) -> Option<usize>
-    requires entries_in_bounds { x.at + entries_width x.form x.entries ≤ length history.now }
-    requires rising { Rising (logicals (entries_in history.now x)) }
+    requires { Searchable history.now x }
     ensures place { IfSome result (λ k. (k ≡ place_of page (logicals (entries_in history.now x))) × (k < x.entries)) }
     ensures found { is_some result ≡ has_page (entries_in history.now x) page }
 {

@@ -19,4 +19,4 @@ pub loop-low-init : goal.loop-low-init
 loop-low-init c = part-start _ _ _ (sym (length-logicals_entries _ _ _ _))
 
 pub logical-requires : goal.logical-requires
-logical-requires c = (c.requires.entries_in_bounds, omega (arith, within (goal.at.logical-requires c).At-loop-low))
+logical-requires c = (c.requires.within, omega (arith, within (goal.at.logical-requires c).At-loop-low))
