@@ -65,7 +65,7 @@ pub fn step_at(bytes: &[u8], place: u64) -> Stands
     if room < bare {
         return Stands::Refused;
     }
-    let entries = numbers::get_u64(bytes, layout::entry_count_at(form));
+    let entries = numbers::get::<8>(bytes, layout::entry_count_at(form));
     let width = layout::entry_width(form);
     let most = ((room - bare) / width) as u64;
     if most < entries {
@@ -77,7 +77,7 @@ pub fn step_at(bytes: &[u8], place: u64) -> Stands
     let front = layout::front_width(form);
     let at = front + layout::entries_width(form, place as usize);
     let entry = index::entry_at(form, bytes, at);
-    let sum = numbers::get_u32(bytes, at + layout::entry_sum_at(form));
+    let sum = numbers::get::<4>(bytes, at + layout::entry_sum_at(form));
     Stands::Entry { entry, sum }
 }
 

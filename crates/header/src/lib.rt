@@ -51,7 +51,7 @@ fn form_of(history: &[u8]) -> Form
     ensures { result ≡ form_of history.now }
 {
     Form {
-        page: numbers::get_u32(history, 8),
+        page: numbers::get::<4>(history, 8),
     }
 }
 
@@ -67,7 +67,7 @@ fn header_wrong(history: &[u8]) -> bool
         & (history[6] == 0)
         & (history[7] == 0)
         & page_allowed(form.page)
-        & (numbers::get_u64(history, 12) <= layout::LIMIT))
+        & (numbers::get::<8>(history, 12) <= layout::LIMIT))
 }
 
 // Row 3.
@@ -104,9 +104,9 @@ pub fn setting_with(history: &[u8], count: u64) -> Setting
     let form = form_of(history);
     Setting {
         form,
-        original: numbers::get_u64(history, 12),
+        original: numbers::get::<8>(history, 12),
         address: layout::get_address(form, history, 20),
-        size: numbers::get_u64(history, 28),
+        size: numbers::get::<8>(history, 28),
         count,
         lock: history[5] & LOCK == LOCK,
         branching: history[5] & BRANCHING == BRANCHING,
@@ -130,13 +130,13 @@ fn put_front(header: &mut [u8], s: Setting)
 {
     let form = s.form;
     let flags = flags_of(s);
-    let version = numbers::wide(layout::version(form));
+    let version = u64::from(layout::version(form));
     numbers::put_signature(header, 0, SIGNATURE);
-    numbers::put_u32(header, 4, version + flags * 256);
-    numbers::put_u32(header, 8, form.page);
-    numbers::put_u64(header, 12, s.original);
+    numbers::put::<4>(header, 4, version + flags * 256);
+    numbers::put::<4>(header, 8, form.page);
+    numbers::put::<8>(header, 12, s.original);
     layout::put_address(form, header, 20, s.address);
-    numbers::put_u64(header, 28, s.size);
+    numbers::put::<8>(header, 28, s.size);
 }
 
 // All of the header, in a buffer of that length.

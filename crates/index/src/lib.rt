@@ -29,7 +29,7 @@ fn page_sum_at(form: Form, history: &[u8], at: usize) -> u64
     requires { at + entry_sum_at form ≤ length history.now }
     ensures { result ≡ page_sum_at form history.now at }
 {
-    numbers::get_u32(history, at + 16)
+    numbers::get::<4>(history, at + 16)
 }
 
 // Stores the page checksum of the entry at an address.
@@ -38,7 +38,7 @@ fn put_page_sum(form: Form, history: &mut [u8], at: usize, sum: u64)
     requires { at + entry_sum_at form ≤ length history.old }
     ensures { history.new ≡ laid history.old (at + 16) (page_sum_bytes form sum) }
 {
-    numbers::put_u32(history, at + 16, sum);
+    numbers::put::<4>(history, at + 16, sum);
 }
 
 // The entry at an address.
@@ -47,7 +47,7 @@ pub fn entry_at(form: Form, history: &[u8], at: usize) -> Entry
     requires { at + entry_sum_at form ≤ length history.now }
     ensures { result ≡ entry_at form history.now at }
 {
-    let logical = numbers::get_u64(history, at);
+    let logical = numbers::get::<8>(history, at);
     let physical = layout::get_address(form, history, at + 8);
     let checksum = page_sum_at(form, history, at);
     Entry {
@@ -63,11 +63,11 @@ pub fn put_entry(form: Form, history: &mut [u8], to: usize, entry: Entry)
     requires { to + entry_width form ≤ length history.old }
     ensures { history.new ≡ laid history.old to (entry_bytes form entry) }
 {
-    numbers::put_u64(history, to, entry.logical);
+    numbers::put::<8>(history, to, entry.logical);
     layout::put_address(form, history, to + 8, entry.physical);
     let sum = checksum::fletcher32_sixteen(history, to);
     put_page_sum(form, history, to, entry.checksum);
-    numbers::put_u32(history, to + layout::entry_sum_at(form), sum);
+    numbers::put::<4>(history, to + layout::entry_sum_at(form), sum);
 }
 
 // The address of the entry at a place of an index.
@@ -93,7 +93,7 @@ pub fn logical(history: &[u8], x: Index, place: usize) -> u64
     requires { (x.at + entries_width x.form x.entries ≤ length history.now) × (place < x.entries) }
     ensures { result ≡ get_or (logicals (entries_in history.now x)) place 0 }
 {
-    numbers::get_u64(history, address(x, place))
+    numbers::get::<8>(history, address(x, place))
 }
 
 // ---- Places in an index, whose addresses rise

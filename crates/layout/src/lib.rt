@@ -151,7 +151,7 @@ pub fn get_address(form: Form, bytes: &[u8], at: usize) -> u64
     requires { at + 8 ≤ length bytes.now }
     ensures { result ≡ address_at form bytes.now at }
 {
-    numbers::get_u64(bytes, at)
+    numbers::get::<8>(bytes, at)
 }
 
 // Lays an address over the eight bytes at another.
@@ -159,5 +159,5 @@ pub fn put_address(form: Form, bytes: &mut [u8], at: usize, address: u64)
     requires { at + 8 ≤ length bytes.old }
     ensures { bytes.new ≡ laid bytes.old at (address_bytes form address) }
 {
-    numbers::put_u64(bytes, at, address);
+    numbers::put::<8>(bytes, at, address);
 }

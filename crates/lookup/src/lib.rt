@@ -51,7 +51,7 @@ fn found_in(
     if look_up_outside(page, size, address) {
         return Err(Refusal::Outside);
     }
-    let length = numbers::below(page as usize, size as usize, address as usize) as u64;
+    let length = page.min(size.saturating_sub(address));
     let Some(place) = index::find(history, x, address) else {
         if (original.len() as u64) < address + length {
             return Err(Refusal::NotInOriginal);

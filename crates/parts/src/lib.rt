@@ -29,7 +29,7 @@ pub fn put_start(history: &mut [u8], at: usize, form: Form, signature: [u8; 4], 
     let version = [layout::version(form), 0, 0, 0];
     numbers::put_signature(history, at, signature);
     numbers::put_signature(history, at + 4, version);
-    numbers::put_u64(history, at + 8, number);
+    numbers::put::<8>(history, at + 8, number);
 }
 
 // ---- Checksums
@@ -41,7 +41,7 @@ pub fn sum_stands(history: &[u8], at: usize, n: usize, sum_at: usize) -> bool
     ensures { result ≡ sum_stands history.now at n sum_at }
 {
     let to = at + n;
-    numbers::get_u32(history, sum_at) == checksum::fletcher32(&history[at..to])
+    numbers::get::<4>(history, sum_at) == checksum::fletcher32(&history[at..to])
 }
 
 // The same of n locations or entries of a width from an address on: at an offset in each stands the checksum of its first 16 bytes.
@@ -60,7 +60,7 @@ pub fn put_sum(history: &mut [u8], start: usize, end: usize)
     ensures { history.new ≡ laid history.old end (number_bytes 4 (checksum (part history.old start (end - start)))) }
 {
     let sum = checksum::fletcher32(&history[start..end]);
-    numbers::put_u32(history, end, sum);
+    numbers::put::<4>(history, end, sum);
 }
 
 // Row 9 of one page: whether its bytes have another checksum than its entry says.

@@ -58,13 +58,13 @@ fn record_at(history: &[u8], form: Form, at: usize, size: u64) -> Record
     Record {
         address: at as u64,
         size,
-        revision: numbers::get_u64(history, at + 8),
-        parent: numbers::get_u64(history, at + 16),
-        logical: numbers::get_u64(history, at + 40),
-        page: numbers::get_u32(history, at + 48),
-        entries: numbers::get_u64(history, sizes),
-        name: numbers::get_u32(history, sizes + 8),
-        comment: numbers::get_u32(history, sizes + 12),
+        revision: numbers::get::<8>(history, at + 8),
+        parent: numbers::get::<8>(history, at + 16),
+        logical: numbers::get::<8>(history, at + 40),
+        page: numbers::get::<4>(history, at + 48),
+        entries: numbers::get::<8>(history, sizes),
+        name: numbers::get::<4>(history, sizes + 8),
+        comment: numbers::get::<4>(history, sizes + 12),
     }
 }
 
@@ -73,7 +73,7 @@ fn put_user(history: &mut [u8], form: Form, at: usize, user: u32)
     requires { at + front_width form ≤ length history.old }
     ensures { history.new ≡ laid history.old (at + 52) (user_bytes form user) }
 {
-    numbers::put_u32(history, at + USER, user as u64);
+    numbers::put::<4>(history, at + USER, user as u64);
 }
 
 // Stores a record's start up to its time: which revision it is, and of which parent.
@@ -83,7 +83,7 @@ fn put_descent(history: &mut [u8], form: Form, r: Record, time: &[u8])
 {
     let at = r.address as usize;
     parts::put_start(history, at, form, SIGNATURE, r.revision);
-    numbers::put_u64(history, at + 16, r.parent);
+    numbers::put::<8>(history, at + 16, r.parent);
     runs::put_run(history, at + TIME, time);
 }
 
@@ -95,12 +95,12 @@ pub fn put_front(history: &mut [u8], form: Form, r: Record, time: &[u8], user: u
     let at = r.address as usize;
     let sizes = at + layout::entry_count_at(form);
     put_descent(history, form, r, time);
-    numbers::put_u64(history, at + 40, r.logical);
-    numbers::put_u32(history, at + 48, r.page);
+    numbers::put::<8>(history, at + 40, r.logical);
+    numbers::put::<4>(history, at + 48, r.page);
     put_user(history, form, at, user);
-    numbers::put_u64(history, sizes, r.entries);
-    numbers::put_u32(history, sizes + 8, r.name);
-    numbers::put_u32(history, sizes + 12, r.comment);
+    numbers::put::<8>(history, sizes, r.entries);
+    numbers::put::<4>(history, sizes + 8, r.name);
+    numbers::put::<4>(history, sizes + 12, r.comment);
 }
 
 // Where a record's time stands: in every form among the fields ahead of the entries.
@@ -116,7 +116,7 @@ pub fn user_of(history: &[u8], form: Form, r: Record) -> u64
     requires { (r.address + front_width form ≤ length history.now) × (length history.now ≤ limit) }
     ensures { result ≡ user_at form history.now r.address }
 {
-    numbers::get_u32(history, r.address as usize + USER)
+    numbers::get::<4>(history, r.address as usize + USER)
 }
 
 // Where a record's name stands, behind its entries.

@@ -65,7 +65,7 @@ impl<'a> Page<'a> {
         requires { (Source history.old self.now.write.now.index to from n) × (self.now.address + from ≤ farthest) }
         ensures { let w = self.now.write.now in history.new ≡ laid history.old to (tabulate n (λ j. kept_byte w.original.now history.old (entries_in history.old w.index) self.now.address self.now.size (from + j))) }
     {
-        let keep = numbers::below(n, self.size, self.address + from);
+        let keep = n.min(self.size.saturating_sub(self.address + from));
         self.put_parent(&mut *history, to, from, keep);
         runs::put_zeros(history, to + keep, n - keep);
     }

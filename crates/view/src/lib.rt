@@ -140,12 +140,12 @@ fn put_revision(out: &mut [u8], original: &[u8], history: &[u8], v: View, from: 
         if next <= at {
             let e = index::entry(history, x, place);
             let inside = at - next;
-            let some = numbers::least(page - inside, n - done);
+            let some = (page - inside).min(n - done);
             put_stored(&mut *out, done, history, e.physical as usize + inside, some);
             done += some;
             place += 1;
         } else {
-            let some = numbers::least(next - at, n - done);
+            let some = (next - at).min(n - done);
             put_original(&mut *out, done, original, at, some);
             done += some;
         }
@@ -159,8 +159,8 @@ fn put_own(out: &mut [u8], history: &[u8], page: usize, address: usize, stored: 
     requires { (0 < page) × (stored + page ≤ length history.now) × (address + page ≤ 2 ^ 33) × (from + length out.old ≤ limit) }
     ensures { out.new ≡ tabulate (length out.old) (own_over out.old history.now page address stored from) }
 {
-    let start = numbers::most(address, from);
-    let end = numbers::least(address + page, from + out.len());
+    let start = address.max(from);
+    let end = (address + page).min(from + out.len());
     if end <= start {
         return;
     }

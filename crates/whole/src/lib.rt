@@ -84,7 +84,7 @@ fn judge_whole(history: &[u8]) -> Result<Setting, Refusal>
     if !lies(history.len() as u64, front) {
         return Err(Refusal::Whole);
     }
-    let count = numbers::get_u64(history, front.address as usize + 8);
+    let count = numbers::get::<8>(history, front.address as usize + 8);
     let setting = header::setting_with(history, count);
     if whole_wrong(history, setting) {
         return Err(Refusal::Whole);
@@ -131,7 +131,7 @@ pub fn location_of(history: &[u8], s: Setting, k: u64) -> Location
     let form = s.form;
     let at = s.address as usize + FRONT + layout::LOCATION * (k - 1) as usize;
     let address = layout::get_address(form, history, at);
-    let size = numbers::get_u64(history, at + 8);
+    let size = numbers::get::<8>(history, at + 8);
     Location { address, size }
 }
 
@@ -141,7 +141,7 @@ fn put_location(history: &mut [u8], to: usize, form: Form, address: u64, size: u
     ensures { history.new ≡ laid history.old to (location_bytes form address size) }
 {
     layout::put_address(form, history, to, address);
-    numbers::put_u64(history, to + 8, size);
+    numbers::put::<8>(history, to + 8, size);
     parts::put_sum(history, to, to + 16);
 }
 

@@ -12,18 +12,18 @@ use Rattle.browsing.proofs.step_at.Goals as goal
 use Rattle.browsing.proofs.step_at.Goals.{After-entries_width, After-entry_width-width, Else-entries-place, Else-most-entries}
 
 -- The entry count that was read,
-counted : (c : After-entry_width-width) → c.get_u64-entries.result ≡ number_at 8 c.args.bytes.now (entry_count_at lent_form)
-counted c = c.get_u64-entries.ensures ∙ ap (number_at 8 _) c.entry_count_at.ensures
+counted : (c : After-entry_width-width) → c.get-entries.result ≡ number_at 8 c.args.bytes.now (entry_count_at lent_form)
+counted c = c.get-entries.ensures.0 ∙ ap (number_at 8 _) c.entry_count_at.ensures
 
 -- and room for so many entries.
-enough : (c : Else-most-entries) → bare_width lent_form + entries_width lent_form c.get_u64-entries.result ≤ length c.args.bytes.now
+enough : (c : Else-most-entries) → bare_width lent_form + entries_width lent_form c.get-entries.result ≤ length c.args.bytes.now
 enough c =
     let bare = c.bare_width-bare in
-    let room = room_enough lent_form c.entry_width-width.ensures (length c.args.bytes.now - bare.result) c.get_u64-entries.result c.if-most-entries.false in
+    let room = room_enough lent_form c.entry_width-width.ensures (length c.args.bytes.now - bare.result) c.get-entries.result c.if-most-entries.false in
     omega (arith, bare.ensures, c.if-room-bare.false)
 
 -- So the entry at the place lies within the bytes,
-inside : (c : Else-entries-place) → bare_width lent_form + entries_width lent_form c.get_u64-entries.result ≤ length c.args.bytes.now → front_width lent_form + entries_width lent_form c.args.place + entry_width lent_form ≤ length c.args.bytes.now
+inside : (c : Else-entries-place) → bare_width lent_form + entries_width lent_form c.get-entries.result ≤ length c.args.bytes.now → front_width lent_form + entries_width lent_form c.args.place + entry_width lent_form ≤ length c.args.bytes.now
 inside c room = entry-room c.args.bytes.now c.args.place room (search rules)
 
 -- also where the code works out that it starts.
@@ -39,7 +39,7 @@ returns-then-room-bare c = step_bare _ _ refl c.if-room-eq0.false (omega (arith,
 pub returns-then-most-entries : goal.returns-then-most-entries
 returns-then-most-entries c =
     let bare = c.bare_width-bare in
-    let short = room-short lent_form c.entry_width-width.ensures (length c.args.bytes.now - bare.result) c.get_u64-entries.result c.if-most-entries.true in
+    let short = room-short lent_form c.entry_width-width.ensures (length c.args.bytes.now - bare.result) c.get-entries.result c.if-most-entries.true in
     step_refused _ _ (counted (goal.at.returns-then-most-entries c).After-entry_width-width) c.if-room-eq0.false refl (omega (arith, bare.ensures, c.if-room-bare.false))
 
 pub returns-then-entries-place : goal.returns-then-entries-place
@@ -65,10 +65,10 @@ overflow_add-at-2 c =
     let at = goal.at.overflow_add-at-2 c in
     omega (arith, c.entry_sum_at.ensures, lies at.After-entries_width (inside at.Else-entries-place (enough at.Else-most-entries)))
 
-pub get_u32-sum-requires : goal.get_u32-sum-requires
-get_u32-sum-requires c =
-    let at = goal.at.get_u32-sum-requires c in
+pub get-sum-requires-clause-inside : goal.get-sum-requires-clause-inside
+get-sum-requires-clause-inside c =
+    let at = goal.at.get-sum-requires-clause-inside c in
     omega (arith, c.entry_sum_at.ensures, lies at.After-entries_width (inside at.Else-entries-place (enough at.Else-most-entries)))
 
 pub returns : goal.returns
-returns c = step-there _ _ (counted (goal.at.returns c).After-entry_width-width) c.if-room-eq0.false (enough (goal.at.returns c).Else-most-entries) (search rules) (omega (arith, c.front_width-front.ensures, c.entries_width.ensures)) c.entry_at-entry.ensures (c.get_u32-sum.ensures.0 ∙ rw c.entry_sum_at.ensures)
+returns c = step-there _ _ (counted (goal.at.returns c).After-entry_width-width) c.if-room-eq0.false (enough (goal.at.returns c).Else-most-entries) (search rules) (omega (arith, c.front_width-front.ensures, c.entries_width.ensures)) c.entry_at-entry.ensures (c.get-sum.ensures.0 ∙ rw c.entry_sum_at.ensures)

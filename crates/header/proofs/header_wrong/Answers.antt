@@ -4,4 +4,4 @@ use Rattle.header.proofs.header_wrong.Goals as goal
 
 pub returns : goal.returns
 returns c =
-    header_parts c.args.history.now c.has_signature.ensures c.version.ensures c.flags_allowed.ensures c.form_of-form.ensures c.page_allowed.ensures c.get_u64.ensures
+    header_parts c.args.history.now c.has_signature.ensures c.version.ensures c.flags_allowed.ensures c.form_of-form.ensures c.page_allowed.ensures c.get.ensures.0

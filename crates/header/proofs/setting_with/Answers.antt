@@ -4,4 +4,4 @@ use Rattle.header.proofs.Flags.{lock_mask, branching_mask}
 use Rattle.header.proofs.setting_with.Goals as goal
 
 pub returns : goal.returns
-returns c = setting_parts _ _ c.form_of-form.ensures c.get_u64.ensures c.get_address.ensures c.get_u64-2.ensures (lock_mask _) (branching_mask _)
+returns c = setting_parts _ _ c.form_of-form.ensures c.get.ensures.0 c.get_address.ensures c.get-2.ensures.0 (lock_mask _) (branching_mask _)

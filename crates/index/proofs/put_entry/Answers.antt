@@ -10,8 +10,8 @@ returns c =
     let address-put = summed in
     let logical-put = address-put in
     let start = logical-put in
-    entry-laid _ _ _ _ _ _ _ _ _ _ start.requires logical-put.put_u64.ensures address-put.put_address.ensures
+    entry-laid _ _ _ _ _ _ _ _ _ _ start.requires logical-put.put.ensures address-put.put_address.ensures
     summed.fletcher32_sixteen-sum.ensures.0
     page-sum-put.put_page_sum.ensures
     sum-put.entry_sum_at.ensures
-    sum-put.put_u32.ensures
+    sum-put.put-2.ensures

@@ -13,26 +13,26 @@ returns-then-look_up_outside-clause-value c =
 pub returns-then-original-address-clause-value : goal.returns-then-original-address-clause-value
 returns-then-original-address-clause-value c =
     let a = c.args in
-    found_nowhere _ _ a.v.index a.size a.address c.look_up_outside.ensures c.if-look_up_outside.false c.below-length.ensures c.in_default.ensures.found c.if-original-address.true refl
+    found_nowhere _ _ a.v.index a.size a.address c.look_up_outside.ensures c.if-look_up_outside.false (rw c.saturating_sub.ensures at c.min-length.ensures) c.in_default.ensures.found c.if-original-address.true refl
 
 pub returns-in_default-clause-value : goal.returns-in_default-clause-value
 returns-in_default-clause-value c =
     let a = c.args in
-    found-original _ _ a.v.index a.size a.address c.look_up_outside.ensures c.if-look_up_outside.false c.below-length.ensures c.in_default.ensures.found c.if-original-address.false
+    found-original _ _ a.v.index a.size a.address c.look_up_outside.ensures c.if-look_up_outside.false (rw c.saturating_sub.ensures at c.min-length.ensures) c.in_default.ensures.found c.if-original-address.false
 
 pub returns-then-page_wrong-clause-value : goal.returns-then-page_wrong-clause-value
 returns-then-page_wrong-clause-value c =
     let a = c.args in
     let found = c.in-Some.ensures.place in
-    found_damaged _ _ a.v.index a.size a.address c.look_up_outside.ensures c.if-look_up_outside.false c.below-length.ensures found.0 found.1 c.page_wrong.ensures c.if-page_wrong.true refl
+    found_damaged _ _ a.v.index a.size a.address c.look_up_outside.ensures c.if-look_up_outside.false (rw c.saturating_sub.ensures at c.min-length.ensures) found.0 found.1 c.page_wrong.ensures c.if-page_wrong.true refl
 
 pub returns-clause-value : goal.returns-clause-value
 returns-clause-value c =
     let a = c.args in
     let found = c.in-Some.ensures.place in
-    found-stored _ _ a.v.index a.size a.address c.look_up_outside.ensures c.if-look_up_outside.false c.below-length.ensures found.0 found.1 c.page_wrong.ensures c.if-page_wrong.false c.entry-e.ensures
+    found-stored _ _ a.v.index a.size a.address c.look_up_outside.ensures c.if-look_up_outside.false (rw c.saturating_sub.ensures at c.min-length.ensures) found.0 found.1 c.page_wrong.ensures c.if-page_wrong.false c.entry-e.ensures
 
 pub returns-clause-lies : goal.returns-clause-lies
 returns-clause-lies c =
     let room = entry-room _ c.args.v c.requires.0 _ c.in-Some.ensures.place.1 c.entry-e.ensures in
-    record { within = omega (arith, c.below-length.ensures) }
+    record { within = omega (arith, (rw c.saturating_sub.ensures at c.min-length.ensures)) }

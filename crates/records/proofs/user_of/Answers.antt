@@ -4,9 +4,9 @@ use Rattle.rules.specs.Layout.{user_at}
 use Rattle.rules.proofs.Places.{count-least}
 use Rattle.records.proofs.user_of.Goals as goal
 
-pub get_u32-requires : goal.get_u32-requires
-get_u32-requires c = omega (arith, count-least c.args.form, c.requires.0)
+pub get-requires-clause-inside : goal.get-requires-clause-inside
+get-requires-clause-inside c = omega (arith, count-least c.args.form, c.requires.0)
 
 pub returns : goal.returns
 unfolding user_at
-returns c = c.get_u32.ensures.0
+returns c = c.get.ensures.0

@@ -11,4 +11,4 @@ returns-then-address-page-ne0 c = own_uneven _ _ _ c.args.address c.args.stored 
 
 pub returns : goal.returns
 returns c =
-    own-laid _ _ _ c.args.address c.args.stored c.args.from c.requires.0 c.if-address-page-ne0.false c.requires.1 c.most-start.ensures c.least-end.ensures (search rules) c.put_stored.ensures
+    own-laid _ _ _ c.args.address c.args.stored c.args.from c.requires.0 c.if-address-page-ne0.false c.requires.1 c.max-start.ensures c.min-end.ensures (search rules) c.put_stored.ensures

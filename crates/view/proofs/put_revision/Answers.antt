@@ -33,11 +33,11 @@ loop-done-smaller-then-next-at c = omega (arith, hit (goal.at.loop-done-smaller-
 
 pub loop-done-preserved-then-next-at : goal.loop-done-preserved-then-next-at
 loop-done-preserved-then-next-at c =
-    walked_hit c.requires.0 c.loop-done.invariant c.loop-done-test.true c.next_stored-next.ensures c.if-next-at.true (omega arith) c.entry-e.ensures c.least-some.ensures c.put_stored.ensures
+    walked_hit c.requires.0 c.loop-done.invariant c.loop-done-test.true c.next_stored-next.ensures c.if-next-at.true (omega arith) c.entry-e.ensures c.min-some.ensures c.put_stored.ensures
 
 pub loop-done-preserved : goal.loop-done-preserved
 loop-done-preserved c =
-    walked_run c.requires.0 c.loop-done.invariant c.loop-done-test.true c.next_stored-next.ensures c.if-next-at.false c.least-some-else-next-at.ensures c.put_original.ensures
+    walked_run c.requires.0 c.loop-done.invariant c.loop-done-test.true c.next_stored-next.ensures c.if-next-at.false c.min-some-else-next-at.ensures c.put_original.ensures
 
 pub returns : goal.returns
 returns c = shown-end c.loop-done.invariant.so_far c.loop-done-test.false

@@ -24,8 +24,8 @@ overflow_add-front c =
     let s = c.setting_with-front.result in
     omega (arith, w.ends, w.sized, end-behind s.form s.address s.size, (header_facts _ c.requires).short)
 
-pub get_u64-count-requires : goal.get_u64-count-requires
-get_u64-count-requires c =
+pub get-count-requires-clause-inside : goal.get-count-requires-clause-inside
+get-count-requires-clause-inside c =
     let w = c.lies.ensures.0 c.if-not-lies.false in
     let s = c.setting_with-front.result in
     omega (arith, w.ends, w.sized, end-behind s.form s.address s.size)
@@ -40,11 +40,11 @@ whole_wrong-requires c =
 
 pub returns-then-whole_wrong-clause-number : goal.returns-then-whole_wrong-clause-number
 returns-then-whole_wrong-clause-number c =
-    let t = counted-setting _ c.setting_with-front.ensures c.get_u64-count.ensures c.setting_with-setting.ensures in
+    let t = counted-setting _ c.setting_with-front.ensures c.get-count.ensures.0 c.setting_with-setting.ensures in
     last-holds 5 (whole_of _ t c.whole_wrong.ensures) c.if-whole_wrong.true
 
 pub returns : goal.returns
 returns c =
     let wrong = c.whole_wrong.ensures in
-    let t = counted-setting _ c.setting_with-front.ensures c.get_u64-count.ensures c.setting_with-setting.ensures in
+    let t = counted-setting _ c.setting_with-front.ensures c.get-count.ensures.0 c.setting_with-setting.ensures in
     record { number = last_past 5 (whole_of _ t wrong) c.if-whole_wrong.false; sound = sound _ c.requires t (sym wrong ∙ c.if-whole_wrong.false) }

@@ -3,4 +3,4 @@ use Rattle.whole.proofs.Stored.{location-laid}
 use Rattle.whole.proofs.put_location.Goals as goal
 
 pub returns : goal.returns
-returns c = location-laid _ _ _ _ _ _ _ _ c.requires.0 c.put_address.ensures c.put_u64.ensures c.put_sum.ensures
+returns c = location-laid _ _ _ _ _ _ _ _ c.requires.0 c.put_address.ensures c.put.ensures c.put_sum.ensures

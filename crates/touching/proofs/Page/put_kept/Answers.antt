@@ -6,4 +6,4 @@ pub returns : goal.returns
 returns c =
     let a = c.args in
     let p = a.self.now in
-    copied p.write.now.original.now _ _ p.address p.size a.from a.n c.below-keep.ensures a.to _ c.requires.0.room c.put_parent.ensures c.put_zeros.ensures
+    copied p.write.now.original.now _ _ p.address p.size a.from a.n (rw c.saturating_sub.ensures at c.min-keep.ensures) a.to _ c.requires.0.room c.put_parent.ensures c.put_zeros.ensures

@@ -1,8 +1,0 @@
--- A number is put by its two halves.
-use borrow.Author.Rules.{rules}
-use Rattle.rules.proofs.Bytes.{put_twice}
-use Rattle.numbers.proofs.put_u32.Goals as goal
-
-pub returns : goal.returns
-returns c =
-    put_twice 2 2 _ _ _ _ _ (search rules) c.put_u16.ensures c.put_u16-2.ensures
