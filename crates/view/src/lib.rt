@@ -133,7 +133,7 @@ fn put_revision(out: &mut [u8], original: &[u8], history: &[u8], v: View, from: 
     let n = out.len();
     let mut place = index::place_from(history, x, (from / page * page) as u64);
     let mut done: usize = 0;
-    // By hand: a step is as long as a run or what is left of a page, so it is not one.
+    // By hand: each step is as long as the run, or what is left of the page, that it lays.
     while done < n {
         let at = from + done;
         let next = next_stored(history, x, place, from + n);

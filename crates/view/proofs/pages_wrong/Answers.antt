@@ -1,15 +1,10 @@
 -- The entries between the two places are those of the pages; the ones passed are fine.
-use Prim.Native.Nat.{◌≤◌}
 use native.Mathlib.Omega.{arith}
 use Rattle.view.proofs.Pages.{last_within, entries-fault, entries-end}
 use Rattle.view.proofs.pages_wrong.Goals as goal
-use Rattle.view.proofs.pages_wrong.Goals.{At-loop-place}
-
-within : (c : At-loop-place) → c.place_from-last.result ≤ c.args.v.index.entries
-within c = last_within c.requires.0 c.args.first c.args.m c.loop-place.invariant c.place_from-last.ensures
 
 pub unowned_wrong-requires : goal.unowned_wrong-requires
-unowned_wrong-requires c = (c.requires.0, omega (arith, within (goal.at.unowned_wrong-requires c).At-loop-place))
+unowned_wrong-requires c = (c.requires.0, omega (arith, last_within c.requires.0 c.args.first c.args.m c.loop-place.invariant c.place_from-last.ensures))
 
 pub returns-then-unowned_wrong : goal.returns-then-unowned_wrong
 returns-then-unowned_wrong c =
