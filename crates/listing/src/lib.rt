@@ -1,14 +1,15 @@
 // The list's text: a line for the history and one for each of its records, or the first fault.
 #![tactic(auto)]
 
-ghost use Rattle.std.specs.Prelude.{◌≡◌, List, ◌++◌, ℕ, ◌+◌, ◌≤◌, length};
+ghost use Rattle.std.specs.Prelude.{◌≡◌, List, ◌++◌, ℕ, ◌+◌, ◌≤◌, length, IfOk};
 ghost use Rattle.rules.specs.Layout.{name_limit};
 ghost use Rattle.rules.specs.Calls.{records_rows};
-ghost use Rattle.rules.specs.Listing.{decimal, yes_no, space, newline, refused_word, setting_line, record_line, record_lines, list_limit, list};
+ghost use Rattle.rules.specs.Refusals.{told};
+ghost use Rattle.rules.specs.Listing.{decimal, yes_no, space, newline, refused_word, setting_line, record_line, record_lines, list_limit, list_rows, list};
 ghost use Rattle.whole.specs.Sound.{Sound};
 ghost use Rattle.listing.specs.Written.{Written, Shown, Passed, Counted, digits_most, flag_most, setting_most, record_most, refused_most, text_most, listed, fitted};
 
-use rules::{Form, Record, Setting};
+use rules::{Form, Record, Refusal, Setting};
 
 // For the list program a longer history than this counts as row 1.
 pub const LIST_LIMIT: usize = 65536;
@@ -160,33 +161,41 @@ fn put_record_line(out: &mut [u8], at: usize, history: &[u8], form: Form, r: Rec
 
 // ---- Rows
 
-// Records that rows 7 and 8 have judged: their number and, where it is 0, how long the records' lines are.
-#[derive(Clone, Copy)]
-struct Judged {
-    number: u64,
-    length: usize,
-}
-
-// Rows 7 and 8, record after record. The lines are counted on the way, so that no record is judged for that alone.
-fn judge_records(history: &[u8], s: Setting) -> Judged
+// Rows 7 and 8, record after record, and how long the records' lines are: they are counted on the way, so that no record is judged for
+// that alone.
+fn judge_records(history: &[u8], s: Setting) -> Result<usize, Refusal>
     requires { Sound history.now s }
-    ensures number { result.number ≡ records_rows history.now s 1 s.count }
-    ensures counted { result.number ≡ 0 → Counted history.now s result.length }
+    ensures number { told result ≡ records_rows history.now s 1 s.count }
+    ensures counted { IfOk result (λ n. Counted history.now s n) }
 {
     let mut length: usize = 0;
     let mut k: u64 = 0;
     while k < s.count {
         k += 1;
-        let judged = records::judge(history, s, k);
-        if judged.number != 0 {
-            return Judged {
-                number: judged.number,
-                length: 0,
-            };
-        }
-        length += record_length(judged.record);
+        let record = records::judge(history, s, k)?;
+        length += record_length(record);
     }
-    Judged { number: 0, length }
+    Ok(length)
+}
+
+// What a history says of itself, and how long its records' lines are.
+#[derive(Clone, Copy)]
+struct Listable {
+    setting: Setting,
+    records: usize,
+}
+
+// The rows of the list: a history of more than so many bytes is refused as too long.
+fn judge(history: &[u8], most: usize) -> Result<Listable, Refusal>
+    ensures number { told result ≡ list_rows most history.now }
+    ensures passed { IfOk result (λ l. Passed history.now l.setting × Counted history.now l.setting l.records) }
+{
+    if most < history.len() {
+        return Err(Refusal::Length);
+    }
+    let setting = whole::judge(history)?;
+    let records = judge_records(history, setting)?;
+    Ok(Listable { setting, records })
 }
 
 // ---- The records' lines
@@ -244,19 +253,10 @@ pub fn list(history: &[u8], out: &mut [u8], most: usize) -> usize
     ensures text { listed result out.new ≡ list most history.now out.old }
     ensures short { result ≤ text_most }
 {
-    if most < history.len() {
-        return list_refused(out, 1);
+    match judge(history, most) {
+        Ok(lines) => list_passed(history, out, lines.setting, lines.records),
+        Err(refusal) => list_refused(out, u64::from(refusal)),
     }
-    let whole = whole::judge(history);
-    if whole.number != 0 {
-        return list_refused(out, whole.number);
-    }
-    let setting = whole.setting;
-    let records = judge_records(history, setting);
-    if records.number != 0 {
-        return list_refused(out, records.number);
-    }
-    list_passed(history, out, setting, records.length)
 }
 
 // The list program's text: the same of at most 65,536 bytes.

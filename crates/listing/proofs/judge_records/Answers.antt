@@ -1,6 +1,7 @@
 -- What is left to judge is the rule of what is left, and the lines that are counted are those of the records that passed.
-use mathlib.Core.Path.{sym, ◌∙◌}
+use mathlib.Core.Path.{refl, sym, ◌∙◌}
 use native.Mathlib.Omega.{arith}
+use Rattle.rules.proofs.Refusals.{refused, number-handed_on}
 use Rattle.listing.proofs.Passing.{rows-fault, rows_end, record-shown}
 use Rattle.listing.proofs.Text.{count-start, count_turn, count-end}
 use Rattle.listing.proofs.judge_records.Goals as goal
@@ -8,29 +9,25 @@ use Rattle.listing.proofs.judge_records.Goals as goal
 pub loop-k-init : goal.loop-k-init
 loop-k-init c = count-start _ _
 
-pub returns-then-judged-ne0 : goal.returns-then-judged-ne0
-returns-then-judged-ne0 c =
-    let refused = c.if-judged-ne0.true in
-    record { number = rows-fault c.loop-k.invariant.left.rows c.loop-k-test.true c.judge-judged.ensures.number refused; counted = λ z. absurd (refused z) }
+pub returns-in_err-record-clause-number : goal.returns-in_err-record-clause-number
+returns-in_err-record-clause-number c = number-handed_on _ _ c.from_residual.ensures.1 ∙ rows-fault c.loop-k.invariant.left.rows c.loop-k-test.true c.in_err-record.ensures.number (refused _)
 
 pub record_length-length-requires : goal.record_length-length-requires
 record_length-length-requires c =
-    let judged = c.judge-judged.ensures in
-    let zero = c.if-judged-ne0.false in
-    let standing = judged.sound zero in
-    let shown = record-shown _ _ _ (omega arith) (sym judged.number ∙ zero) standing.sound standing.found in
+    let judged = c.in_ok-record.ensures in
+    let standing = judged.sound in
+    let shown = record-shown _ _ _ (omega arith) (sym judged.number) standing.sound standing.found in
     (shown.named, shown.few)
 
 pub loop-k-preserved : goal.loop-k-preserved
 loop-k-preserved c =
-    let judged = c.judge-judged.ensures in
-    let zero = c.if-judged-ne0.false in
-    let clear = sym judged.number ∙ zero in
-    let standing = judged.sound zero in
+    let judged = c.in_ok-record.ensures in
+    let clear = sym judged.number in
+    let standing = judged.sound in
     let long = c.record_length-length.ensures in
     count_turn _ c.loop-k.invariant c.loop-k-test.true clear standing.found (long.0 _ _ (record-shown _ _ _ (omega arith) clear standing.sound standing.found)) long.1
 
 pub returns : goal.returns
 returns c =
     let counted = c.loop-k.invariant in
-    record { number = rows_end counted.left.rows c.loop-k-test.false; counted = λ z. count-end counted c.loop-k-test.false c.requires.few }
+    record { number = rows_end counted.left.rows c.loop-k-test.false; counted = count-end counted c.loop-k-test.false c.requires.few }
