@@ -40,12 +40,7 @@ fn created_setting(original: u64, page: u64, branching: bool) -> Setting
 }
 
 // Creates a history. The header is stored last: until it stands, there is no history.
-pub fn create(
-    history: &mut [u8],
-    original: u64,
-    page: u64,
-    branching: bool,
-) -> Result<(), Refusal>
+pub fn create(history: &mut [u8], original: u64, page: u64, branching: bool) -> Result<(), Refusal>
     ensures { ◌≡◌ {A = Reply} (record { number = told result; bytes = history.new })
         (create history.old original page branching) }
 {

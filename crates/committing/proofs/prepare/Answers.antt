@@ -1,6 +1,5 @@
 -- The rows in the order of the call; the last leaves what the stores rest on.
 use mathlib.Core.Path.{refl, ◌∙◌}
-use native.Mathlib.Omega.{arith}
 use Rattle.rules.proofs.Refusals.{refused, number-handed_on}
 use Rattle.committing.proofs.Rows.{index-inside, index_rises, index_is, stored-small, commit-held, commit_many, commit_texts, commit-small, commit-full, commit_fine, committable}
 use Rattle.committing.proofs.prepare.Goals as goal

@@ -1,5 +1,5 @@
 -- What is left to judge is the rule of what is left, and the lines that are counted are those of the records that passed.
-use mathlib.Core.Path.{refl, sym, ◌∙◌}
+use mathlib.Core.Path.{sym, ◌∙◌}
 use native.Mathlib.Omega.{arith}
 use Rattle.rules.proofs.Refusals.{refused, number-handed_on}
 use Rattle.listing.proofs.Passing.{rows-fault, rows_end, record-shown}

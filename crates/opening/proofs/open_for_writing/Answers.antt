@@ -1,5 +1,5 @@
 -- Judged once; then the header with the lock set is all that is stored.
-use mathlib.Core.Path.{refl, ◌∙◌}
+use mathlib.Core.Path.{refl}
 use Rattle.rules.proofs.Refusals.{refused, handed_on}
 use Rattle.opening.proofs.Locking.{open_refused, open-accepted}
 use Rattle.opening.proofs.open_for_writing.Goals as goal

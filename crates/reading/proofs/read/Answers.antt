@@ -1,5 +1,5 @@
 -- Judged once; then the rows and the bytes of the record's view.
-use mathlib.Core.Path.{refl, ◌∙◌}
+use mathlib.Core.Path.{refl}
 use native.Mathlib.Omega.{arith}
 use Rattle.rules.proofs.Rows.{left_alone}
 use Rattle.rules.proofs.Refusals.{refused, handed_on}
