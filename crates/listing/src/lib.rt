@@ -18,17 +18,11 @@ pub const LONGEST: usize = 169068;
 
 // ---- Numbers
 
-// How many digits a number has.
+// How many digits a number has: nothing has one, as 1 has.
 fn decimal_length(n: u64) -> usize
     ensures { (result ≡ length (decimal n)) × (result ≤ digits_most) }
 {
-    let mut left = n;
-    let mut behind: usize = 0;
-    while 10 <= left {
-        left /= 10;
-        behind += 1;
-    }
-    behind + 1
+    n.max(1).ilog10() as usize + 1
 }
 
 // Lays a number's digits over the bytes from an address on, the last digit first, and answers where they end.
@@ -44,8 +38,7 @@ fn put_decimal(out: &mut [u8], at: usize, n: u64) -> usize
         out[place] = b'0' + (left % 10) as u8;
         left /= 10;
     }
-    place -= 1;
-    out[place] = b'0' + left as u8;
+    out[at] = b'0' + left as u8;
     end
 }
 
@@ -72,29 +65,30 @@ fn put_number(out: &mut [u8], at: usize, word: &[u8], n: u64) -> usize
     put_decimal(out, next, n)
 }
 
+fn word_of(flag: bool) -> &'static [u8]
+    ensures { result.now ≡ yes_no flag }
+{
+    if flag { b"yes" } else { b"no" }
+}
+
 // The same with a flag behind the word.
 fn put_flag(out: &mut [u8], at: usize, word: &[u8], flag: bool) -> usize
     requires { at + length word.now + length (yes_no flag) ≤ length out.old }
     ensures { Written out.old at (word.now ++ yes_no flag) out.new result }
 {
-    if flag {
-        return put_text(out, at, word, b"yes");
-    }
-    put_text(out, at, word, b"no")
+    put_text(out, at, word, word_of(flag))
 }
 
 fn flag_length(flag: bool) -> usize
     ensures { (result ≡ length (yes_no flag)) × (result ≤ flag_most) }
 {
-    if flag {
-        return 3;
-    }
-    2
+    word_of(flag).len()
 }
 
 // ---- The history's line
 
 // The words, the spaces about them and the newline are 42 bytes.
+#[tactic(auto, using(crate::proofs::Lines::setting_long))]
 fn setting_length(s: Setting) -> usize
     ensures { (result ≡ length (setting_line s)) × (result ≤ setting_most) }
 {
@@ -105,6 +99,7 @@ fn setting_length(s: Setting) -> usize
         + flag_length(s.branching)
 }
 
+#[tactic(auto, using(crate::proofs::Lines::setting_long))]
 fn put_setting_line(out: &mut [u8], at: usize, s: Setting) -> usize
     requires { at + length (setting_line s) ≤ length out.old }
     ensures { Written out.old at (setting_line s) out.new result }
@@ -174,9 +169,7 @@ fn judge_records(history: &[u8], s: Setting) -> Judged
     ensures counted { result.number ≡ 0 → Counted history.now s result.length }
 {
     let mut length: usize = 0;
-    let mut k: u64 = 0;
-    while k < s.count {
-        k += 1;
+    for k in 1..=s.count {
         let judged = records::judge(history, s, k);
         if judged.number != 0 {
             return Judged {
@@ -198,9 +191,7 @@ fn put_record_lines(out: &mut [u8], at: usize, history: &[u8], s: Setting) -> us
 {
     let form = s.form;
     let mut next = at;
-    let mut k: u64 = 0;
-    while k < s.count {
-        k += 1;
+    for k in 1..=s.count {
         let record = records::passed(history, s, k);
         next = put_record_line(out, next, history, form, record);
     }
@@ -215,11 +206,10 @@ fn list_refused(out: &mut [u8], number: u64) -> usize
     ensures short { result ≤ refused_most }
 {
     let length = 9 + decimal_length(number);
-    if out.len() < length {
-        return length;
+    if length <= out.len() {
+        let next = put_number(out, 0, b"refused ", number);
+        runs::put_run(out, next, b"\n");
     }
-    let next = put_number(out, 0, b"refused ", number);
-    runs::put_run(out, next, b"\n");
     length
 }
 
@@ -230,11 +220,10 @@ fn list_passed(history: &[u8], out: &mut [u8], s: Setting, records: usize) -> us
     ensures short { result ≤ text_most }
 {
     let total = setting_length(s) + records;
-    if out.len() < total {
-        return total;
+    if total <= out.len() {
+        let next = put_setting_line(out, 0, s);
+        put_record_lines(out, next, history, s);
     }
-    let next = put_setting_line(out, 0, s);
-    put_record_lines(out, next, history, s);
     total
 }
 
