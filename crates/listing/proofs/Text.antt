@@ -6,7 +6,7 @@ use native.Mathlib.Numerals.{add-one}
 use native.Mathlib.Nat.{add-zero}
 use native.Mathlib.Omega.{arith}
 use lib.ListN.{length, length-append}
-use borrow.Author.Tests.{le-leb, lt-leb}
+use borrow.Author.Tests.{le-leb}
 use Rattle.rules.specs.Layout.{revision_limit, setting_of, record_of}
 use Rattle.rules.specs.Calls.{record_rows}
 use Rattle.rules.specs.Listing.{decimal, newline, refused_word, setting_line, record_line, record_lines, list_rows, list_text, list}
@@ -52,9 +52,6 @@ pub record LinesCounted (h : List ℕ) (s : Setting) (k n : ℕ) : Type 0 where
   pub left : LinesLeft h s k done
   pub many : length done ≡ n
   pub few : n + record_most ≤ k * record_most
-
-pub count-start : (h : List ℕ) (s : Setting) → LinesCounted h s 1 0
-count-start h s = record { done = []; left = left-start h s; many = refl; few = omega arith }
 
 pub count_turn : {h : List ℕ} {s : Setting} {k n : ℕ} {r : Record} (m : ℕ) → LinesCounted h s k n → k ≤ s.count → record_rows h s k ≡ 0 → r ≡ record_of h s k
     → m ≡ length (record_line h s.form r) → m ≤ record_most → LinesCounted h s (k + 1) (n + m)
@@ -116,11 +113,7 @@ module _ {h : List ℕ} {s : Setting} {before : List ℕ} {at k : ℕ} {now : Li
 
 -- ---- The text in a lent buffer
 
--- There is no room for it.
-pub fitted_not : (out text : List ℕ) {n : ℕ} → n ≡ length text → length out < n → listed n out ≡ fitted out text
-fitted_not out text e h = rw (e, lt-leb (length text) (length out) (omega arith))
-
--- There is.
+-- There is room for it.
 pub fitted_whole : (out text : List ℕ) {after : List ℕ} {n end : ℕ} → n ≡ length text → n ≤ length out → Written out 0 text after end
     → listed n after ≡ fitted out text
 fitted_whole out text e h w = rw (e, w.bytes, le-leb (length text) (length out) (omega arith))

@@ -18,7 +18,7 @@ pub const LONGEST: usize = 169068;
 
 // ---- Numbers
 
-// How many digits a number has: nothing has one, as 1 has.
+// How many digits a number has; 0 has one, as 1 has.
 fn decimal_length(n: u64) -> usize
     ensures { (result ≡ length (decimal n)) × (result ≤ digits_most) }
 {
@@ -26,6 +26,7 @@ fn decimal_length(n: u64) -> usize
 }
 
 // Lays a number's digits over the bytes from an address on, the last digit first, and answers where they end.
+// By hand: to print by the library takes three times as long, and a `for` over the places is unrolled, which few digits do not pay for.
 fn put_decimal(out: &mut [u8], at: usize, n: u64) -> usize
     requires { at + length (decimal n) ≤ length out.old }
     ensures { Written out.old at (decimal n) out.new result }
@@ -43,6 +44,12 @@ fn put_decimal(out: &mut [u8], at: usize, n: u64) -> usize
 }
 
 // ---- Words
+
+fn word_of(flag: bool) -> &'static [u8]
+    ensures { result.now ≡ yes_no flag }
+{
+    if flag { b"yes" } else { b"no" }
+}
 
 // Lays a word and a text behind it over the bytes from an address on, and answers where they end.
 fn put_text(out: &mut [u8], at: usize, word: &[u8], text: &[u8]) -> usize
@@ -63,12 +70,6 @@ fn put_number(out: &mut [u8], at: usize, word: &[u8], n: u64) -> usize
     let next = at + word.len();
     runs::put_run(out, at, word);
     put_decimal(out, next, n)
-}
-
-fn word_of(flag: bool) -> &'static [u8]
-    ensures { result.now ≡ yes_no flag }
-{
-    if flag { b"yes" } else { b"no" }
 }
 
 // The same with a flag behind the word.
@@ -117,6 +118,7 @@ fn put_setting_line(out: &mut [u8], at: usize, s: Setting) -> usize
 
 // How long the line is, in every history that the record's time and name lie in. Five spaces, the time and the newline are 22
 // bytes, and the name is shown without its closing zero.
+#[tactic(auto, using(crate::proofs::Lines::record_long))]
 fn record_length(r: Record) -> usize
     requires { (1 ≤ r.name) × (r.name ≤ name_limit) }
     ensures { ((history : List ℕ) (f : Form) → Shown history f r → result ≡ length (record_line history f r)) × (result ≤ record_most) }

@@ -3,12 +3,9 @@ use mathlib.Core.Path.{sym, ◌∙◌}
 use Prim.Native.Nat.{◌+◌}
 use native.Mathlib.Omega.{arith}
 use Rattle.listing.proofs.Passing.{rows-fault, rows_end, record-shown}
-use Rattle.listing.proofs.Text.{LinesCounted, count-start, count_turn, count-end}
+use Rattle.listing.proofs.Text.{LinesCounted, count_turn, count-end}
 use Rattle.listing.proofs.judge_records.Goals as goal
 use Rattle.listing.proofs.judge_records.Goals.{After-record_length-length}
-
-pub loop-k-init : goal.loop-k-init
-loop-k-init c = count-start _ _
 
 pub returns-then-judged-ne0 : goal.returns-then-judged-ne0
 returns-then-judged-ne0 c =
