@@ -132,8 +132,8 @@ module _ {before : List ℕ} {at n left place : ℕ} {now : List ℕ} (l : Digit
     bytes = one (0x30 + left % 10);
   }
 
-  pub laid_end : left < 10 → set now at (0x30 + left) ≡ laid before at (decimal n)
+  pub laid_end : left < 10 → set now (place - 1) (0x30 + left) ≡ laid before at (decimal n)
   laid_end h =
       let a : decimal n ≡ (0x30 + left) ∷ l.behind = left_end l.digits h in
       let e : place - 1 ≡ at = omega (arith, l.there, ap length a) in
-      rw (e, ← a) at (one (0x30 + left))
+      one (0x30 + left) ∙ rw (e, a)

@@ -39,7 +39,8 @@ fn put_decimal(out: &mut [u8], at: usize, n: u64) -> usize
         out[place] = b'0' + (left % 10) as u8;
         left /= 10;
     }
-    out[at] = b'0' + left as u8;
+    place -= 1;
+    out[place] = b'0' + left as u8;
     end
 }
 

@@ -18,8 +18,11 @@ bounds-out-place c = omega (arith, laid-above c.loop-left.invariant, laid-length
 pub loop-left-preserved : goal.loop-left-preserved
 loop-left-preserved c = laid_turn c.loop-left.invariant c.loop-left-test.true
 
-pub bounds-out-at : goal.bounds-out-at
-bounds-out-at c = omega (arith, laid-above c.loop-left.invariant, laid-length c.loop-left.invariant)
+pub overflow_sub-place-2 : goal.overflow_sub-place-2
+overflow_sub-place-2 c = omega (arith, laid-above c.loop-left.invariant)
+
+pub bounds-out-place-2 : goal.bounds-out-place-2
+bounds-out-place-2 c = omega (arith, laid-above c.loop-left.invariant, laid-length c.loop-left.invariant)
 
 pub returns : goal.returns
 returns c = record { bytes = laid_end c.loop-left.invariant (search rules); next = ap (◌+◌ _) c.decimal_length.ensures.0 }
