@@ -9,6 +9,7 @@ use std::io::{self, Read};
 
 // Reads until the buffer is full or the input ends, and answers how many bytes now stand at its start. An error leaves in the buffer what
 // was read before it, and ends the program.
+// By hand: `read_exact` answers no count where the input ends early, `read_to_end` takes heap memory, and `copy` tells no slice's bytes.
 fn read_full<R: Read>(from: &mut R, buffer: &mut [u8]) -> io::Result<usize>
     ensures within { IfOk result (λ n. n ≤ length buffer.new) }
     ensures bytes { IfOk result (λ n. Consumes (R.remaining from.old) (R.remaining from.new) (take n buffer.new)) }

@@ -1,9 +1,9 @@
--- Decimal digits, found from the last to the first.
+-- Decimal digits: how many there are, and those of a number found from the last to the first.
 use mathlib.Core.Path.{◌≡◌, refl, sym, ap, ◌∙◌}
 use mathlib.Core.Bool.{Bool, true, false, cond}
 use mathlib.Core.List.{List, [], ◌∷◌, ◌++◌, append_assoc, append-nil}
-use Prim.Native.Nat.{ℕ, zero, suc, ◌+◌, ◌-◌, ◌/◌, ◌%◌, ◌^◌, ◌≤◌, ◌<◌}
-use native.Mathlib.Nat.{add_assoc, pow-suc, div-lt_iff_lt-mul}
+use Prim.Native.Nat.{ℕ, zero, suc, ◌+◌, ◌*◌, ◌-◌, ◌/◌, ◌%◌, ◌^◌, ◌≤◌, ◌<◌, max}
+use native.Mathlib.Nat.{add_assoc, pow-suc, one-le-pow, div-lt_iff_lt-mul, le-div_iff_mul-le}
 use native.Mathlib.Numerals.{add-one}
 use native.Mathlib.Omega.{arith}
 use lib.Dec.{lit<, ltb}
@@ -14,6 +14,28 @@ use Rattle.rules.specs.Bytes.{laid}
 use Rattle.rules.specs.Listing.{decimal_within, decimal}
 use Rattle.rules.proofs.Bytes.{length-laid, take-laid, laid-nothing, sets-laid}
 use Rattle.listing.specs.Written.{digits_most}
+
+-- ---- How many there are
+
+-- A number from 10 ^ k on and below the next power has k + 1 digits.
+many : (p k n : ℕ) → k ≤ p → (0 < k → 10 ^ k ≤ n) → n < 10 ^ suc k → length (decimal_within (suc p) n) ≡ suc k
+unfolding decimal_within
+many p zero n l low high = rw (lt-ltb n 10 high)
+many zero (suc k) n l low high = absurd (omega arith)
+many (suc p) (suc k) n l low high =
+    let least : 10 ^ k * 10 ≤ n = rw (pow-suc 10 k) at (low (omega arith)) in
+    let most : n < 10 ^ suc k * 10 = rw (pow-suc 10 (suc k)) at high in
+    let big : 10 ≤ n = omega (arith, one-le-pow k 10 (lit< tt)) in
+    let next = many p k (n / 10) (omega arith) (λ _. (le-div_iff_mul-le (lit< tt)).1 least) ((div-lt_iff_lt-mul (lit< tt)).1 most) in
+    rw (le-ltb n 10 big, length-append, next) (omega arith)
+
+pub decimal-many : (n k : ℕ) → k < 20 → 10 ^ k ≤ max n 1 → max n 1 < 10 * 10 ^ k → (k + 1 ≡ length (decimal n)) × (k + 1 ≤ digits_most)
+decimal-many n zero few low high = (rw (many 19 0 n (omega arith) (λ h. absurd (omega arith)) (omega arith)), omega arith)
+decimal-many n (suc k) few low high =
+    let least : 10 ≤ 10 ^ suc k = omega (arith, one-le-pow k 10 (lit< tt), pow-suc 10 k) in
+    (rw (many 19 (suc k) n (omega arith) (λ _. omega arith) (omega (arith, pow-suc 10 (suc k)))) (add-one (suc k)), omega arith)
+
+-- ---- Digits found
 
 -- A number whose last digits are found: those of what is left stand ahead of them. Of twenty places each digit found takes one,
 -- and what is left never outgrows the others.
@@ -54,22 +76,6 @@ some places n = go (ltb n 10)
 left_end : {n left : ℕ} {behind : List ℕ} → DigitsLeft n left behind → left < 10 → decimal n ≡ (0x30 + left) ∷ behind
 unfolding decimal_within
 left_end {n} {left} d h = d.all ∙ rw (lt-ltb left 10 h)
-
--- ---- Digits counted
-
-pub record DigitsCounted (n left k : ℕ) : Type 0 where
-  pub behind : List ℕ
-  pub many : length behind ≡ k
-  pub digits : DigitsLeft n left behind
-
-pub count-start : (n : ℕ) → n < 2 ^ 64 → DigitsCounted n n 0
-count-start n h = record { behind = []; many = refl; digits = left-start n h }
-
-pub count_turn : {n left k : ℕ} → DigitsCounted n left k → 10 ≤ left → DigitsCounted n (left / 10) (k + 1)
-count_turn {n} {left} {k} d h = record { behind = _; many = ap suc d.many ∙ sym (add-one k); digits = left_turn d.digits h }
-
-pub count-end : {n left k : ℕ} → DigitsCounted n left k → left < 10 → (k + 1 ≡ length (decimal n)) × (k + 1 ≤ digits_most)
-count-end d h = (rw (left_end d.digits h) (omega (arith, d.many)), omega (arith, d.many, d.digits.kept))
 
 -- ---- Digits laid over bytes
 

@@ -47,33 +47,33 @@ unfolding records_rows
 records_step h s k zero l = absurd (omega arith)
 records_step h s k (suc m) l = let e : suc m - 1 ≡ m = omega arith in rw e
 
--- The first k records have passed.
+-- The records ahead of k have passed.
 pub record RowsLeft (h : List ℕ) (s : Setting) (k : ℕ) : Type 0 where
-  pub within : k ≤ s.count
-  pub left : records_rows h s 1 s.count ≡ records_rows h s (k + 1) (s.count - k)
+  pub within : k ≤ s.count + 1
+  pub left : records_rows h s 1 s.count ≡ records_rows h s k (s.count + 1 - k)
 
-pub rows_start : (h : List ℕ) (s : Setting) → RowsLeft h s 0
-rows_start h s = let e : s.count - 0 ≡ s.count = omega arith in record { within = omega arith; left = rw e }
+pub rows_start : (h : List ℕ) (s : Setting) → RowsLeft h s 1
+rows_start h s = let e : s.count + 1 - 1 ≡ s.count = omega arith in record { within = omega arith; left = rw e }
 
-module _ {h : List ℕ} {s : Setting} {k : ℕ} (l : RowsLeft h s k) (more : k < s.count) where
-  next : records_rows h s 1 s.count ≡ (record_rows h s (k + 1) then records_rows h s (k + 1 + 1) (s.count - (k + 1)))
+module _ {h : List ℕ} {s : Setting} {k : ℕ} (l : RowsLeft h s k) (more : k ≤ s.count) where
+  next : records_rows h s 1 s.count ≡ (record_rows h s k then records_rows h s (k + 1) (s.count + 1 - (k + 1)))
   next =
-      let e : s.count - k - 1 ≡ s.count - (k + 1) = omega arith in
-      l.left ∙ records_step h s (k + 1) (s.count - k) (omega arith) ∙ rw (e, ← add-one (k + 1))
+      let e : s.count + 1 - k - 1 ≡ s.count + 1 - (k + 1) = omega arith in
+      l.left ∙ records_step h s k (s.count + 1 - k) (omega arith) ∙ rw (e, ← add-one k)
 
-  pub rows-fault : {n : ℕ} → n ≡ record_rows h s (k + 1) → (n ≡ 0 → ⊥) → n ≡ records_rows h s 1 s.count
+  pub rows-fault : {n : ℕ} → n ≡ record_rows h s k → (n ≡ 0 → ⊥) → n ≡ records_rows h s 1 s.count
   rows-fault {n} e f = rows_hold _ n e f ∙ sym next
 
-  pub rows_turn : {n : ℕ} → n ≡ record_rows h s (k + 1) → n ≡ 0 → RowsLeft h s (k + 1)
+  pub rows_turn : {n : ℕ} → n ≡ record_rows h s k → n ≡ 0 → RowsLeft h s (k + 1)
   rows_turn e z = record { within = omega arith; left = next ∙ sym (rows_past _ e z refl) }
 
   -- Where all pass, the next one does.
-  pub rows-clear : records_rows h s 1 s.count ≡ 0 → record_rows h s (k + 1) ≡ 0
+  pub rows-clear : records_rows h s 1 s.count ≡ 0 → record_rows h s k ≡ 0
   rows-clear z = (then-clear _ _ (sym next ∙ z)).0
 
-pub rows_end : {h : List ℕ} {s : Setting} {k : ℕ} → RowsLeft h s k → s.count ≤ k → 0 ≡ records_rows h s 1 s.count
+pub rows_end : {h : List ℕ} {s : Setting} {k : ℕ} → RowsLeft h s k → s.count < k → 0 ≡ records_rows h s 1 s.count
 unfolding records_rows
-rows_end {h} {s} {k} l m = let e : s.count - k ≡ 0 = omega arith in sym (l.left ∙ rw e)
+rows_end {h} {s} {k} l m = let e : s.count + 1 - k ≡ 0 = omega arith in sym (l.left ∙ rw e)
 
 -- ---- A record that has passed can be shown
 

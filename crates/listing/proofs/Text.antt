@@ -6,7 +6,7 @@ use native.Mathlib.Numerals.{add-one}
 use native.Mathlib.Nat.{add-zero}
 use native.Mathlib.Omega.{arith}
 use lib.ListN.{length, length-append}
-use borrow.Author.Tests.{le-leb, lt-leb}
+use borrow.Author.Tests.{le-leb}
 use Rattle.rules.specs.Layout.{revision_limit, setting_of, record_of}
 use Rattle.rules.specs.Calls.{record_rows}
 use Rattle.rules.specs.Listing.{decimal, newline, refused_word, setting_line, record_line, record_lines, list_rows, list_text, list}
@@ -25,38 +25,35 @@ unfolding record_lines
 lines_step h s k zero l = absurd (omega arith)
 lines_step h s k (suc m) l = let e : suc m - 1 ≡ m = omega arith in rw e
 
--- The first k records have passed, and their lines are done.
+-- The records ahead of k have passed, and their lines are done.
 pub record LinesLeft (h : List ℕ) (s : Setting) (k : ℕ) (done : List ℕ) : Type 0 where
   pub rows : RowsLeft h s k
-  pub all : record_lines h s 1 s.count ≡ done ++ record_lines h s (k + 1) (s.count - k)
+  pub all : record_lines h s 1 s.count ≡ done ++ record_lines h s k (s.count + 1 - k)
 
-left-start : (h : List ℕ) (s : Setting) → LinesLeft h s 0 []
-left-start h s = let e : s.count - 0 ≡ s.count = omega arith in record { rows = rows_start h s; all = rw e }
+left-start : (h : List ℕ) (s : Setting) → LinesLeft h s 1 []
+left-start h s = let e : s.count + 1 - 1 ≡ s.count = omega arith in record { rows = rows_start h s; all = rw e }
 
 module _ {h : List ℕ} {s : Setting} {k : ℕ} {done : List ℕ} (l : LinesLeft h s k done) where
-  left-all : k < s.count → record_lines h s 1 s.count ≡ (done ++ record_line h s.form (record_of h s (k + 1))) ++ record_lines h s (k + 1 + 1) (s.count - (k + 1))
+  left-all : k ≤ s.count → record_lines h s 1 s.count ≡ (done ++ record_line h s.form (record_of h s k)) ++ record_lines h s (k + 1) (s.count + 1 - (k + 1))
   left-all m =
-      let e : s.count - k - 1 ≡ s.count - (k + 1) = omega arith in
-      l.all ∙ rw (lines_step h s (k + 1) (s.count - k) (omega arith), e, ← add-one (k + 1)) (sym (append_assoc done _ _))
+      let e : s.count + 1 - k - 1 ≡ s.count + 1 - (k + 1) = omega arith in
+      l.all ∙ rw (lines_step h s k (s.count + 1 - k) (omega arith), e, ← add-one k) (sym (append_assoc done _ _))
 
-  left_turn : k < s.count → record_rows h s (k + 1) ≡ 0 → LinesLeft h s (k + 1) (done ++ record_line h s.form (record_of h s (k + 1)))
+  left_turn : k ≤ s.count → record_rows h s k ≡ 0 → LinesLeft h s (k + 1) (done ++ record_line h s.form (record_of h s k))
   left_turn m z = record { rows = rows_turn l.rows m (sym z) refl; all = left-all m }
 
-  left_end : s.count ≤ k → record_lines h s 1 s.count ≡ done
+  left_end : s.count < k → record_lines h s 1 s.count ≡ done
   unfolding record_lines
-  left_end m = let e : s.count - k ≡ 0 = omega arith in l.all ∙ rw e (append-nil done)
+  left_end m = let e : s.count + 1 - k ≡ 0 = omega arith in l.all ∙ rw e (append-nil done)
 
 -- Their length so far.
 pub record LinesCounted (h : List ℕ) (s : Setting) (k n : ℕ) : Type 0 where
   pub done : List ℕ
   pub left : LinesLeft h s k done
   pub many : length done ≡ n
-  pub few : n ≤ k * record_most
+  pub few : n + record_most ≤ k * record_most
 
-pub count-start : (h : List ℕ) (s : Setting) → LinesCounted h s 0 0
-count-start h s = record { done = []; left = left-start h s; many = refl; few = omega arith }
-
-pub count_turn : {h : List ℕ} {s : Setting} {k n : ℕ} {r : Record} (m : ℕ) → LinesCounted h s k n → k < s.count → record_rows h s (k + 1) ≡ 0 → r ≡ record_of h s (k + 1)
+pub count_turn : {h : List ℕ} {s : Setting} {k n : ℕ} {r : Record} (m : ℕ) → LinesCounted h s k n → k ≤ s.count → record_rows h s k ≡ 0 → r ≡ record_of h s k
     → m ≡ length (record_line h s.form r) → m ≤ record_most → LinesCounted h s (k + 1) (n + m)
 count_turn m l i z e f b = record {
   done = _;
@@ -65,7 +62,7 @@ count_turn m l i z e f b = record {
   few = omega (arith, l.few);
 }
 
-pub count-end : {h : List ℕ} {s : Setting} {k n : ℕ} → LinesCounted h s k n → s.count ≤ k → s.count ≤ revision_limit → Counted h s n
+pub count-end : {h : List ℕ} {s : Setting} {k n : ℕ} → LinesCounted h s k n → s.count < k → s.count ≤ revision_limit → Counted h s n
 count-end l m b = record { all = rw (left_end l.left m) (sym l.many); few = omega (arith, l.few, l.left.rows.within) }
 
 -- What is written so far.
@@ -77,7 +74,7 @@ pub record LinesWritten (h : List ℕ) (s : Setting) (before : List ℕ) (at k :
   pub written : Written before at done now next
 
 pub written_start : (h : List ℕ) (s : Setting) (before : List ℕ) (at : ℕ) → (at + length (record_lines h s 1 s.count) ≤ length before) × Passed h s
-    → LinesWritten h s before at 0 before at
+    → LinesWritten h s before at 1 before at
 written_start h s before at p = record {
   passed = p.1;
   room = p.0;
@@ -94,10 +91,10 @@ module _ {h : List ℕ} {s : Setting} {before : List ℕ} {at k : ℕ} {now : Li
   written-length = ap length l.written.bytes ∙ length-laid before at l.done within
 
   -- The next record passes too.
-  pub written-clear : k < s.count → record_rows h s (k + 1) ≡ 0
+  pub written-clear : k ≤ s.count → record_rows h s k ≡ 0
   written-clear m = rows-clear l.left.rows m l.passed.clear
 
-  module _ {r : Record} (more : k < s.count) (e : r ≡ record_of h s (k + 1)) where
+  module _ {r : Record} (more : k ≤ s.count) (e : r ≡ record_of h s k) where
     -- There is room for the next line.
     pub written-room : next + length (record_line h s.form r) ≤ length now
     written-room = rw e (omega (arith, l.room, written-length, l.written.next, simp length-append at (ap length (left-all l.left more))))
@@ -111,16 +108,12 @@ module _ {h : List ℕ} {s : Setting} {before : List ℕ} {at k : ℕ} {now : Li
       written = written_then l.written (rw e at w) (omega (arith, l.written.next, within));
     }
 
-  pub written-end : s.count ≤ k → Written before at (record_lines h s 1 s.count) now next
+  pub written-end : s.count < k → Written before at (record_lines h s 1 s.count) now next
   written-end m = rw (left_end l.left m) l.written
 
 -- ---- The text in a lent buffer
 
--- There is no room for it.
-pub fitted_not : (out text : List ℕ) {n : ℕ} → n ≡ length text → length out < n → listed n out ≡ fitted out text
-fitted_not out text e h = rw (e, lt-leb (length text) (length out) (omega arith))
-
--- There is.
+-- There is room for it.
 pub fitted_whole : (out text : List ℕ) {after : List ℕ} {n end : ℕ} → n ≡ length text → n ≤ length out → Written out 0 text after end
     → listed n after ≡ fitted out text
 fitted_whole out text e h w = rw (e, w.bytes, le-leb (length text) (length out) (omega arith))

@@ -1,8 +1,9 @@
 -- The checksums of locations or entries, of which each stands beside what it is of: they are taken one by one.
 use mathlib.Core.Path.{◌≡◌, refl, ap, ◌∙◌}
 use mathlib.Core.List.{List, [], ◌∷◌, ◌++◌}
-use Prim.Native.Nat.{ℕ, zero, suc, ◌+◌, ◌*◌, ◌/◌, ◌%◌, ◌-◌, ◌≤◌, ◌<◌}
-use native.Mathlib.Nat.{zero-add, mod-lt, div-mul-le_self, add-zero, zero-mul, suc-mul}
+use Prim.Native.Nat.{ℕ, zero, suc, ◌+◌, ◌*◌, ◌/◌, ◌-◌, ◌≤◌, ◌<◌}
+use native.Mathlib.Nat.{div-mul-le_self, div-eq_of_lt, add-div_left, mul-div_left, add-zero, suc-mul}
+use native.Mathlib.Numerals.{add-one}
 use native.Mathlib.Omega.{arith}
 use lib.ListN.{length, take, drop, get_or, length-append, length-take, length-drop}
 use lib.Seq.{take_at, drop_at, take-take, drop-drop}
@@ -13,7 +14,6 @@ use Rattle.std.specs.Slice.Iter.{chunks_exact_rest, chunks_exact_size, chunks_ex
 use Rattle.std.specs.declared.slice.ChunksExact.{ChunksExact}
 use Rattle.std.proofs.lemmas.Iterator.{YieldsList}
 use Rattle.std.proofs.lemmas.Iterator.Splits.{YieldsList-from_shown_while}
-use Rattle.std.proofs.lemmas.Nat.{div-mul-add, div-add-mod'}
 use Rattle.rules.specs.Bytes.{part}
 use Rattle.rules.specs.Layout.{sum_stands, sums_stand}
 
@@ -38,21 +38,15 @@ chunk-within w xs x k h e =
     (l, omega (arith, r.1))
 
 module _ (w : ℕ) (some : 0 < w) where
-  none-left : (m : ℕ) → m < w → m / w ≡ 0
-  none-left m h = let e = div-mul-add 0 w m h in rw (zero-mul, zero-add) at e
-
-  one-off : (m : ℕ) → (w + m) / w ≡ suc (m / w)
-  one-off m = let e : suc (m / w) * w + m % w ≡ w + m = omega (arith, suc-mul (m / w) w, div-add-mod' m w) in rw (← e) (div-mul-add (suc (m / w)) w (m % w) (mod-lt m some))
-
   cut : (xs x rest : List ℕ) → xs ≡ x ++ rest → length x ≡ w → chunks w (length xs / w) xs ≡ x ∷ chunks w (length rest / w) rest
-  cut xs x rest e l = rw (e, length-append, l, one-off (length rest), take_at x rest w l, drop_at x rest w l)
+  cut xs x rest e l = rw (e, length-append, l, add-div_left (length rest) some, add-one, take_at x rest w l, drop_at x rest w l)
 
   -- The library cuts the whole parts off one by one.
   pub chunks-yielded : (s : ChunksExact ℕ) → chunks_exact_size s ≡ w
       → YieldsList chunks_exact_steps (λ x. x.now) s (chunks w (length (chunks_exact_rest s) / w) (chunks_exact_rest s))
   chunks-yielded s e =
       YieldsList-from_shown_while chunks_exact_steps (λ x. x.now) (λ t. chunks w (length (chunks_exact_rest t) / w) (chunks_exact_rest t)) (λ t. chunks_exact_size t ≡ w)
-      (λ s t e h. let z = none-left (length (chunks_exact_rest s)) (omega (arith, e, h.1.0)) in rw z)
+      (λ s t e h. let l : length (chunks_exact_rest s) < w = omega (arith, e, h.1.0) in rw (div-eq_of_lt l))
       (λ s x t e h. (h.0 ∙ e, cut _ _ _ h.1.0 (h.1.1 ∙ e)))
       s e
 
@@ -73,5 +67,5 @@ module _ (w o : ℕ) (long : 16 ≤ w) (inside : o + 4 ≤ w) where
   pub sums-all : (h : List ℕ) (at n : ℕ) {rest : List ℕ} → at + n * w ≤ length h → rest ≡ take (at + n * w - at) (drop at h)
       → list_all (λ p. sum_stands p 0 16 o) (chunks w (length rest / w) rest) ≡ sums_stand w o h at n
   sums-all h at n room e =
-      let many : n * w / w ≡ n = let d = div-mul-add n w 0 (omega arith) in rw add-zero at d in
-      rw (e, slice-part, length_part h at (n * w) room, many) (each h at n)
+      let some : 0 < w = omega arith in
+      rw (e, slice-part, length_part h at (n * w) room, mul-div_left n some) (each h at n)

@@ -2,7 +2,7 @@
 // host/vectors computes the same lines by itself, from the document's words.
 #![tactic(auto)]
 
-ghost use Rattle.std.specs.Prelude.{◌<◌, ◌≤◌, length};
+ghost use Rattle.std.specs.Prelude.{◌≤◌, length};
 
 use std::io;
 
@@ -14,29 +14,25 @@ fn show(rt: &impl Print, bytes: &[u8]) -> io::Result<()>
     println!(rt; " 0x{sums:08x}")
 }
 
-fn line(rt: &impl Print, name: &[u8], bytes: &[u8]) -> io::Result<()>
+fn line(rt: &impl Print, name: &str, bytes: &[u8]) -> io::Result<()>
     requires { length bytes.now ≤ 16777216 }
 {
-    rt.write_all(name)?;
+    print!(rt; "{name}")?;
     show(rt, bytes)
 }
 
 // The bytes start, start + step, start + 2 * step and so on, modulo 256.
-fn fill(bytes: &mut [u8], start: u64, step: u64)
-    requires { (start < 256) × (step < 256) }
-{
+fn fill(bytes: &mut [u8], start: u8, step: u8) {
     let mut value = start;
-    let mut i = 0;
-    while i < bytes.len() {
-        bytes[i] = value as u8;
-        value = (value + step) % 256;
-        i += 1;
+    for byte in bytes.iter_mut() {
+        *byte = value;
+        value = value.wrapping_add(step);
     }
 }
 
 // Ends a line with the checksum of n such bytes.
-fn show_filled(rt: &impl Print, start: u64, step: u64, n: usize) -> io::Result<()>
-    requires { (start < 256) × (step < 256) × (n ≤ 65536) }
+fn show_filled(rt: &impl Print, start: u8, step: u8, n: usize) -> io::Result<()>
+    requires { n ≤ 65536 }
 {
     let mut bytes = [0u8; 65536];
     fill(&mut bytes, start, step);
@@ -45,27 +41,27 @@ fn show_filled(rt: &impl Print, start: u64, step: u64, n: usize) -> io::Result<(
 
 // Vectors that the document names.
 fn of_the_document(rt: &impl Print) -> io::Result<()> {
-    line(rt, b"no bytes", b"")?;
-    line(rt, b"document 01", &[1])?;
-    line(rt, b"document 00 01", &[0, 1])?;
-    line(rt, b"document FF FF", &[255, 255])?;
-    line(rt, b"document FF FF 00 01", &[255, 255, 0, 1])
+    line(rt, "no bytes", b"")?;
+    line(rt, "document 01", &[1])?;
+    line(rt, "document 00 01", &[0, 1])?;
+    line(rt, "document FF FF", &[255, 255])?;
+    line(rt, "document FF FF 00 01", &[255, 255, 0, 1])
 }
 
 // The vectors of HDF5's own test of its checksum.
 fn of_hdf5(rt: &impl Print) -> io::Result<()> {
-    line(rt, b"HDF5 17", &[23])?;
-    line(rt, b"HDF5 17 BB", &[23, 187])?;
-    line(rt, b"HDF5 17 BB 62", &[23, 187, 98])?;
-    line(rt, b"HDF5 17 BB 62 D9", &[23, 187, 98, 217])?;
+    line(rt, "HDF5 17", &[23])?;
+    line(rt, "HDF5 17 BB", &[23, 187])?;
+    line(rt, "HDF5 17 BB 62", &[23, 187, 98])?;
+    line(rt, "HDF5 17 BB 62 D9", &[23, 187, 98, 217])?;
     print!(rt; "HDF5 3093 bytes 3 * i")?;
     show_filled(rt, 0, 3, 3093)
 }
 
 fn of_text(rt: &impl Print) -> io::Result<()> {
-    line(rt, b"text abcde", b"abcde")?;
-    line(rt, b"text abcdef", b"abcdef")?;
-    line(rt, b"text abcdefgh", b"abcdefgh")
+    line(rt, "text abcde", b"abcde")?;
+    line(rt, "text abcdef", b"abcdef")?;
+    line(rt, "text abcdefgh", b"abcdefgh")
 }
 
 fn of_length(rt: &impl Print, n: usize) -> io::Result<()>
@@ -77,10 +73,8 @@ fn of_length(rt: &impl Print, n: usize) -> io::Result<()>
 
 // Every length from 0 to 64, so that each way through the lanes, the last words and an odd last byte is taken.
 fn of_each_length(rt: &impl Print) -> io::Result<()> {
-    let mut n = 0;
-    while n <= 64 {
+    for n in 0..=64 {
         of_length(rt, n)?;
-        n += 1;
     }
     Ok(())
 }

@@ -1,10 +1,6 @@
 -- What is left to judge is the rule of what is left, and the lines that are counted are those of the records that passed.
-use Prim.Native.Nat.{◌-◌}
 use Rattle.listing.proofs.Text.{LinesCounted}
 use Rattle.listing.proofs.judge_records.Given as goal
 
 abbrev pub invariant-loop-k : goal.invariant-loop-k
 invariant-loop-k l = LinesCounted l.history l.s l.k l.length
-
-abbrev pub decreases-loop-k : goal.decreases-loop-k
-decreases-loop-k l = l.s.count - l.k

@@ -28,3 +28,6 @@ loop-k-preserved c =
 
 pub returns : goal.returns
 returns c = written-end c.loop-k.invariant c.loop-k-test.false
+
+pub returns-2 : goal.returns-2
+returns-2 c = written-end (written_turn c.loop-k.invariant c.loop-k-test.true c.passed-record.ensures c.put_record_line-next.ensures) (omega arith)

@@ -1,10 +1,6 @@
 -- What is written so far are the lines of the records so far, and every record passes.
-use Prim.Native.Nat.{◌-◌}
 use Rattle.listing.proofs.Text.{LinesWritten}
 use Rattle.listing.proofs.put_record_lines.Given as goal
 
 abbrev pub invariant-loop-k : goal.invariant-loop-k
 invariant-loop-k l = LinesWritten l.history l.s l.initial.out l.at l.k l.out l.next
-
-abbrev pub decreases-loop-k : goal.decreases-loop-k
-decreases-loop-k l = l.s.count - l.k
