@@ -1,7 +1,7 @@
 // The header: rows 1 to 3, what it says of its history, and its 40 bytes.
 #![tactic(auto)]
 
-ghost use Rattle.std.specs.Prelude.{◌≡◌, ◌/◌, ◌%◌, ◌≤◌, ◌<◌, eqb, ltb, length};
+ghost use Rattle.std.specs.Prelude.{◌≡◌, ◌≤◌, ◌<◌, ltb, length};
 ghost use Rattle.rules.specs.Bytes.{laid};
 ghost use Rattle.rules.specs.Layout.{page_allowed, limit, flags_of, header_width, header_front, header_bytes, form_of, setting_with};
 ghost use Rattle.rules.specs.Rows.{length_wrong, header_wrong, header_sum_wrong};

@@ -2,7 +2,7 @@
 // session's pages.
 #![tactic(auto)]
 
-ghost use Rattle.std.specs.Prelude.{◌≡◌, true, false, ◌+◌, ◌≤◌, ◌*◌, ◌^◌, ◌<◌, ◌==◌, length, get_or, IfSome, is_some};
+ghost use Rattle.std.specs.Prelude.{◌≡◌, true, ◌+◌, ◌≤◌, ◌*◌, ◌^◌, ◌<◌, ◌==◌, length, get_or, IfSome, is_some};
 ghost use Rattle.std.specs.List.{list_any};
 ghost use Rattle.rules.specs.Bytes.{laid};
 ghost use Rattle.rules.specs.Layout.{

@@ -2,6 +2,7 @@ pub mod Bytes
 pub mod Checksum
 pub mod Rows
 pub mod Refusals
+pub mod Determined
 pub mod Places
 pub mod Entries
 pub mod Rising

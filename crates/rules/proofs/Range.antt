@@ -27,7 +27,7 @@ use native.Mathlib.Omega.{arith}
 use lib.Dec.{leb}
 use lib.ListN.{length, take, set, get_or, length-append, length-set}
 use lib.Seq.{length-take-le, take-length, take-append_seam, take-take, take-suc, take-set-le, get_or-set_same}
-use borrow.Author.Tests.{lt-ltb, le-ltb, leb-true, leb-false}
+use borrow.Author.Tests.{lt-ltb, leb-true, leb-false}
 use Rattle.rules.specs.Layout.{entries_width, entry_at, entries_in}
 use Rattle.rules.specs.View.{place_of, has, logicals, has_page, entry_of, page_of, own_pages, pages_from, pages_in}
 use Rattle.rules.specs.Session.{with_page, touching}
@@ -156,9 +156,6 @@ module _ (h : List ℕ) (x : Index) (a : ℕ) {place : ℕ} (e : place ≡ place
   pub page-there : place < x.entries → has_page (entries_in h x) a ≡ true
   page-there l = rw (← e, length-logicals_entries x.form h x.at x.entries) (lt-ltb place x.entries l)
 
-  pub page-missing : x.entries ≤ place → has_page (entries_in h x) a ≡ false
-  page-missing l = rw (← e, length-logicals_entries x.form h x.at x.entries) (le-ltb place x.entries l)
-
   pub entry-there : place < x.entries → entry_at x.form h (x.at + entries_width x.form place) ≡ entry_of (entries_in h x) a
   entry-there l = rw (← e) (sym (entry_entries x.form h x.at x.entries place l))
 
@@ -166,14 +163,6 @@ module _ (h : List ℕ) (x : Index) (a : ℕ) {place : ℕ} (e : place ≡ place
 
 pub own-length : (st : State) → st.n ≤ length st.pages → length (own_pages st) ≡ st.n
 own-length st l = length-take-le st.n st.pages l
-
--- What a search among the first n pages tells.
-module _ (pages : List ℕ) (n a : ℕ) {place : ℕ} (l : n ≤ length pages) (e : place ≡ place_of a (take n pages)) where
-  pub own-there : place < n → has (take n pages) a ≡ true
-  own-there h = rw (← e, length-take-le n pages l) (lt-ltb place n h)
-
-  pub own-missing : n ≤ place → has (take n pages) a ≡ false
-  own-missing h = rw (← e, length-take-le n pages l) (le-ltb place n h)
 
 -- One page more.
 pub own_more : (st : State) (a : ℕ) → st.n < length st.pages → own_pages (with_page st a) ≡ own_pages st ++ (a ∷ [])

@@ -127,11 +127,6 @@ refused-ahead r e rest h f = number-handed_on r e h ∙ rows_hold rest (number_o
 
 -- ---- What is told leaves no choice
 
--- Two answers that tell one number are both accepted, or refused alike.
-pub refused_alike : {A : Type 0} (one other : Result A Refusal) (e : Refusal) → told one ≡ told other → one ≡ Err e → other ≡ Err e
-refused_alike one (Ok x) e h q = absurd (refused e (sym (ap told q) ∙ h))
-refused_alike one (Err f) e h q = ap Err (same_refusal f e (sym h ∙ ap told q))
-
 pub kept_alike : (one other : Option Refusal) → number_kept one ≡ number_kept other → one ≡ other
 kept_alike None None h = refl
 kept_alike None (Some f) h = absurd (refused f (sym h))

@@ -68,10 +68,6 @@ pub left_alone {ℓ} : {A : Type ℓ} (n : ℕ) (new old : A) → (n ≡ 0 → �
 left_alone zero new old h = absurd (h refl)
 left_alone (suc n) new old h = refl
 
--- What is told of an acceptance says nothing of a refusal.
-pub refusal {ℓ} : {A : Type ℓ} {n k : ℕ} → n ≡ k → (k ≡ 0 → ⊥) → n ≡ 0 → A
-refusal e f z = absurd (f (sym e ∙ z))
-
 -- ---- Promises
 
 -- Stands for itself: a promise that is one equation with the rules leaves no choice. Two outcomes that it allows are equal.

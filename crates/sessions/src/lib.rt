@@ -1,7 +1,7 @@
 // A session's rows: 13, then 7 and 8 of its parent, then the last condition of 13; and the rows ahead of them.
 #![tactic(auto)]
 
-ghost use Rattle.std.specs.Prelude.{◌≡◌, true, ◌+◌, ◌≤◌, ◌<◌, length, drop, get_or, IfOk};
+ghost use Rattle.std.specs.Prelude.{◌≡◌, true, ◌+◌, ◌<◌, length, drop, get_or, IfOk};
 ghost use Rattle.rules.specs.Layout.{page_allowed};
 ghost use Rattle.rules.specs.Orders.{Rising};
 ghost use Rattle.rules.specs.View.{has};

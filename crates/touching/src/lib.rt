@@ -1,7 +1,7 @@
 // The pages of a write: the bytes are laid over them, and what is left of a page is copied with them at its first touch.
 #![tactic(auto)]
 
-ghost use Rattle.std.specs.Prelude.{◌≡◌, false, ◌+◌, ◌*◌, ◌≤◌, ◌<◌, length};
+ghost use Rattle.std.specs.Prelude.{◌≡◌, false, ◌+◌, ◌*◌, ◌≤◌, length};
 ghost use Rattle.rules.specs.Bytes.{laid, tabulate};
 ghost use Rattle.rules.specs.Layout.{limit, entry_limit, touch_limit, entries_width, entries_in};
 ghost use Rattle.rules.specs.Orders.{Rising};

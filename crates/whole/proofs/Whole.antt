@@ -1,12 +1,11 @@
 -- Row 5 and row 4, as the code goes through them.
-use mathlib.Core.Path.{◌≡◌, sym, ◌∙◌}
-use mathlib.Core.Bool.{Bool, true, false, not, ◌&&◌, true≢false}
+use mathlib.Core.Path.{◌≡◌}
+use mathlib.Core.Bool.{Bool, true, false, not, ◌&&◌}
 use mathlib.Core.List.{List}
 use Prim.Native.Nat.{ℕ, ◌+◌, ◌-◌}
 use native.Mathlib.Omega.{arith}
-use lib.Dec.{leb}
 use lib.ListN.{length}
-use borrow.Author.Tests.{le-leb, eq-eqb, ne_eqb, leb-true}
+use borrow.Author.Tests.{le-leb, eq-eqb, ne_eqb}
 use Rattle.rules.specs.Bytes.{part, same}
 use Rattle.rules.specs.Layout.{
   whole_signature,
@@ -15,16 +14,13 @@ use Rattle.rules.specs.Layout.{
   sums_stand,
   setting_with,
   setting_of,
-  committed_end,
-  whole_size,
   location_width,
   location_at,
-  header_end,
   count_at,
 }
 use Rattle.rules.specs.Rows.{original_wrong, whole_wrong}
 use Rattle.rules.specs.declared.Setting.{Setting}
-use Rattle.rules.proofs.Rows.{both, must_hold}
+use Rattle.rules.proofs.Rows.{must_hold}
 use Rattle.rules.proofs.Headers.{WholeFacts, whole_facts}
 use Rattle.whole.specs.Places.{Lying}
 
@@ -45,19 +41,6 @@ module _ (h : List ℕ) (s : Setting) where
       let q : s.size - 4 ≡ m = omega arith in
       let o : location_at s 1 ≡ s.address + 16 = omega arith in
       rw (le-leb _ _ w.behind, le-leb _ _ w.ends, eq-eqb _ _ w.sized, le-leb _ _ w.few, q, o, b, c, l)
-
--- Where it lies, by three tests.
-module _ (room : ℕ) (s : Setting) {header end least : ℕ} (a : header ≡ header_end s.form) (b : end ≡ committed_end s) (c : least ≡ whole_size 0) where
-  pub lies-right : leb header s.address && leb end room && leb least s.size ≡ true → Lying room s
-  lies-right e =
-      let two = both (leb header s.address && leb end room) (leb least s.size) e in
-      let one = both (leb header s.address) (leb end room) two.0 in
-      record { behind = omega (arith, a, leb-true header s.address one.0); ends = omega (arith, b, leb-true end room one.1); sized = omega (arith, c, leb-true least s.size two.1) }
-
-  pub lies_wrong : leb header s.address && leb end room && leb least s.size ≡ false → Lying room s → ⊥
-  lies_wrong e w =
-      let holds : leb header s.address && leb end room && leb least s.size ≡ true = rw (a, b, c, le-leb _ _ w.behind, le-leb _ _ w.ends, le-leb _ _ w.sized) in
-      true≢false (sym holds ∙ e)
 
 -- The fields that stand in the header say where the whole history lies, whatever the count is.
 pub front_lies : (h : List ℕ) {front : Setting} → front ≡ setting_with h 0 → (Lying (length h) front → ⊥) → true ≡ whole_wrong h (setting_of h)

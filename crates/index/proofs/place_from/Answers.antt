@@ -1,6 +1,6 @@
 -- The addresses ahead of low are below the one that is sought, those from high on are not, and each turn halves what is between.
 use mathlib.Core.Path.{sym}
-use Prim.Native.Nat.{ℕ, ◌+◌, ◌-◌, ◌/◌, ◌≤◌}
+use Prim.Native.Nat.{◌≤◌}
 use native.Mathlib.Omega.{arith}
 use Rattle.rules.proofs.Entries.{length-logicals_entries}
 use Rattle.index.proofs.Search.{part-start}
@@ -11,9 +11,6 @@ within : (c : At-loop-low) → c.loop-low.high ≤ c.args.x.entries
 within c =
     let a = c.args in
     omega (arith, length-logicals_entries a.x.form a.history.now a.x.at a.x.entries, c.loop-low.invariant.within)
-
-abbrev middle : At-loop-low → ℕ
-middle c = c.loop-low.low + (c.loop-low.high - c.loop-low.low) / 2
 
 pub loop-low-init : goal.loop-low-init
 loop-low-init c = part-start _ _ _ (sym (length-logicals_entries _ _ _ _))
