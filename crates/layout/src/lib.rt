@@ -44,7 +44,7 @@ pub const HEADER: usize = 40;
 
 pub const LOCATION: usize = 20;
 
-// ---- Ends
+// ---- Ends, of a form whose page size is allowed. That is a clause and no invariant of `Form`, since a form is read before it is judged.
 
 // Where a part ends.
 pub fn end_of(form: Form, at: u64, size: u64) -> u64

@@ -12,7 +12,7 @@ use records::Revision;
 use rules::{Refusal, Setting};
 
 // 2^64 - 1 asks for the newest.
-const NEWEST: u64 = 18446744073709551615;
+const NEWEST: u64 = u64::MAX;
 
 // Row 6.
 pub fn revision_unknown(s: Setting, revision: u64) -> bool
@@ -53,7 +53,7 @@ pub fn judge(original: &[u8], history: &[u8], revision: u64) -> Result<Revision,
     judge_asked(history, setting, revision)
 }
 
-// Rows 1, 2, 3, 5, 6, 7, 8, where no original is lent.
+// Rows 1, 2, 3, 5, 6, 7, 8, where no original is lent: by itself, since the paper has an order for it by itself.
 pub fn judge_alone(history: &[u8], revision: u64) -> Result<Revision, Refusal>
     ensures number { told result ≡ browse_rows history.now revision }
     ensures standing { IfOk result (λ r. Standing history.now r.setting (asked r.setting revision) r.record) }

@@ -89,7 +89,8 @@ pub struct Index {
 }
 
 // A session's state: the committed end and the count that it was opened at, its parent, its logical size, and the n pages
-// that it touched, in the order of first touch. Page i of them lies i page sizes after the end. The slots past n are unused.
+// that it touched, in the order of first touch. Page i of them lies i page sizes after the end. The slots past n are unused: C takes it by
+// value, so the pages are no slice.
 #[repr(C)]
 #[derive(Clone, Copy)]
 pub struct State {
@@ -100,6 +101,8 @@ pub struct State {
     pub n: u64,
     pub pages: [u32; 256],
 }
+
+// ---- What C takes: a refusal by its number, a kind by a number, a buffer with its length beside it
 
 // A page as a part of the original (source 0) or of the history (source 1). All zeros but the number where it is refused.
 #[repr(C)]

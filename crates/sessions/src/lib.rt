@@ -103,7 +103,7 @@ pub fn judge(st: State, original: &[u8], history: &[u8]) -> Result<Revision, Ref
     judge_session(st, history, setting)
 }
 
-// Rows 1, 2, 3, 5, 13, 7, 8, which commit begins with.
+// Rows 1, 2, 3, 5, 13, 7, 8, which commit begins with: by itself, since the paper has an order for it by itself.
 pub fn judge_alone(st: State, history: &[u8]) -> Result<Revision, Refusal>
     ensures number { told result ≡ held_rows st history.now }
     ensures sound { IfOk result (λ parent. SoundSession history.now parent.setting st parent.record) }

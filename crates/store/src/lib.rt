@@ -13,7 +13,7 @@ pub struct Session {
     pub state: State,
 }
 
-// What a session call answers: its number, and the session handed back.
+// What a session call answers: its number, and the session handed back. The paper asks for both side by side, and C takes them so.
 #[repr(C)]
 #[derive(Clone, Copy)]
 pub struct Answer {

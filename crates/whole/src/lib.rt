@@ -101,7 +101,7 @@ pub fn judge(history: &[u8]) -> Result<Setting, Refusal>
     judge_whole(history)
 }
 
-// Rows 1 to 5.
+// Rows 1 to 5: an order of the paper by itself, with row 4 between the others, so it is no case of the function above.
 pub fn judge_both(original: &[u8], history: &[u8]) -> Result<Setting, Refusal>
     ensures number { told result ≡ both_rows original.now history.now (setting_of history.now) }
     ensures sound { IfOk result (λ s. Sound history.now s) }
