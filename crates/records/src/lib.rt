@@ -158,20 +158,20 @@ fn record_lies(s: Setting, r: Record) -> bool
 }
 
 // The fields ahead of the entries.
-fn record_fields(history: &[u8], s: Setting, k: u64, r: Record) -> bool
-    requires { r.address + front_width s.form ≤ length history.now }
-    ensures { result ≡ record_fields history.now s k r }
+fn record_fields(history: History<'_>, k: u64, r: Record) -> bool
+    requires { r.address + front_width history.setting.form ≤ length history.bytes.now }
+    ensures { result ≡ record_fields history.entry.bytes.now history.entry.setting k r }
 {
-    let form = s.form;
+    let s = history.setting;
     let at = r.address as usize;
     let time = at + TIME;
     let behind = time + 16;
-    parts::starts(history, at, form, SIGNATURE)
+    parts::starts(history.bytes, at, s.form, SIGNATURE)
         & (r.revision == k)
         & (r.parent < k)
-        & texts::time_right(&history[time..behind])
+        & texts::time_right(&history.bytes[time..behind])
         & ((s.original <= r.logical) & (r.logical <= layout::LIMIT))
-        & (r.page == form.page)
+        & (r.page == s.form.page)
 }
 
 // Whether an entry's addresses are allowed behind those before it, of which the next logical address may be `next`.
@@ -190,11 +190,11 @@ fn entry_right(s: Setting, r: Record, next: u64, e: Entry) -> bool
         & (e.physical <= r.address - form.page)
 }
 
-fn entries_right(history: &[u8], s: Setting, r: Record) -> bool
-    requires { (Paged s.form) × (page_allowed s.form.page ≡ true) × (r.address + front_width s.form + entries_width s.form r.entries ≤ length history.now) × (r.logical ≤ limit) }
-    ensures { result ≡ entries_right s r 0 (index_of history.now s.form r) }
+fn entries_right(history: History<'_>, r: Record) -> bool
+    requires { (r.address + front_width history.setting.form + entries_width history.setting.form r.entries ≤ length history.bytes.now) × (r.logical ≤ limit) }
+    ensures { let s = history.entry.setting in result ≡ entries_right s r 0 (index_of history.entry.bytes.now s.form r) }
 {
-    let form = s.form;
+    let form = history.setting.form;
     let x = Index {
         form,
         at: r.address as usize + layout::front_width(form),
@@ -202,8 +202,8 @@ fn entries_right(history: &[u8], s: Setting, r: Record) -> bool
     };
     let mut next: u64 = 0;
     for k in 0..x.entries {
-        let e = index::entry(history, x, k);
-        if !entry_right(s, r, next, e) {
+        let e = index::entry(history.bytes, x, k);
+        if !entry_right(history.setting, r, next, e) {
             return false;
         }
         next = e.logical + 1;
@@ -227,17 +227,16 @@ fn record_wrong(history: History<'_>, k: u64, r: Record) -> bool
     requires { r.address + front_width history.setting.form ≤ length history.bytes.now }
     ensures { result ≡ record_wrong history.entry.bytes.now history.entry.setting k r }
 {
-    let s = history.setting;
-    if !record_lies(s, r) {
+    if !record_lies(history.setting, r) {
         return true;
     }
-    if !record_fields(history.bytes, s, k, r) {
+    if !record_fields(history, k, r) {
         return true;
     }
-    if !entries_right(history.bytes, s, r) {
+    if !entries_right(history, r) {
         return true;
     }
-    !texts_right(history.bytes, s.form, r)
+    !texts_right(history.bytes, history.setting.form, r)
 }
 
 // ---- Row 8
