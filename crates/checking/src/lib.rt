@@ -3,11 +3,11 @@
 
 ghost use Rattle.std.specs.Prelude.{◌≡◌};
 ghost use Rattle.rules.specs.Calls.{check_revisions, check};
-ghost use Rattle.whole.specs.Sound.{Sound};
 ghost use Rattle.checking.specs.Faults.{checked};
 
 use records::Revision;
-use rules::{Refusal, Setting};
+use rules::Refusal;
+use whole::History;
 
 // A fault, with its revision and its entry; 0 where none is named.
 #[derive(Clone, Copy, Debug, PartialEq, Eq)]
@@ -18,13 +18,13 @@ pub struct Fault {
 }
 
 // The revisions in their order, each record's 7 and 8 and then its pages' 9. The first fault ends both loops.
-fn check_revisions(history: &[u8], s: Setting) -> Result<(), Fault>
-    requires { Sound history.now s }
-    ensures { checked result ≡ check_revisions history.now s 1 s.count }
+fn check_revisions(history: History<'_>) -> Result<(), Fault>
+    ensures { let s = history.entry.setting in checked result ≡ check_revisions history.entry.bytes.now s 1 s.count }
 {
+    let s = history.setting;
     let mut found = Ok(());
     'revisions: for k in 1..=s.count {
-        let record = match records::judge(history, s, k) {
+        let record = match records::judge(history, k) {
             Ok(record) => record,
             Err(refusal) => {
                 found = Err(Fault {
@@ -37,8 +37,8 @@ fn check_revisions(history: &[u8], s: Setting) -> Result<(), Fault>
         };
         let x = Revision { setting: s, record }.index();
         for j in 0..x.entries {
-            let e = index::entry(history, x, j);
-            if parts::page_sum_wrong(history, s.form.page, e) {
+            let e = index::entry(history.bytes, x, j);
+            if parts::page_sum_wrong(history.bytes, s.form.page, e) {
                 found = Err(Fault {
                     refusal: Refusal::PageSum,
                     revision: k,
@@ -56,7 +56,7 @@ pub fn check(history: &[u8]) -> Result<(), Fault>
     ensures { checked result ≡ check history.now }
 {
     match whole::judge(history) {
-        Ok(setting) => check_revisions(history, setting),
+        Ok(history) => check_revisions(history),
         Err(refusal) => Err(Fault {
             refusal,
             revision: 0,

@@ -8,13 +8,13 @@ use native.Mathlib.Omega.{arith}
 use lib.ListN.{length, length-append}
 use borrow.Author.Tests.{le-leb}
 use Rattle.rules.specs.Layout.{revision_limit, setting_of, record_of}
-use Rattle.rules.specs.Calls.{record_rows}
+use Rattle.rules.specs.Calls.{record_rows, records_rows}
 use Rattle.rules.specs.Listing.{decimal, newline, refused_word, setting_line, record_line, record_lines, list_rows, list_text, list}
 use Rattle.rules.specs.declared.Setting.{Setting}
 use Rattle.rules.specs.declared.Record.{Record}
 use Rattle.rules.proofs.Bytes.{laid-nothing, length-laid}
 use Rattle.rules.proofs.Rows.{left_alone}
-use Rattle.listing.specs.Written.{record_most, Written, Passed, Counted, listed, fitted}
+use Rattle.listing.specs.Written.{record_most, Written, Counted, listed, fitted}
 use Rattle.listing.proofs.Lines.{written_then}
 use Rattle.listing.proofs.Passing.{RowsLeft, rows_start, rows_turn, rows-clear}
 
@@ -67,17 +67,17 @@ count-end l m b = record { all = rw (left_end l.left m) (sym l.many); few = omeg
 
 -- What is written so far.
 pub record LinesWritten (h : List ℕ) (s : Setting) (before : List ℕ) (at k : ℕ) (now : List ℕ) (next : ℕ) : Type 0 where
-  pub passed : Passed h s
+  pub clear : records_rows h s 1 s.count ≡ 0
   pub room : at + length (record_lines h s 1 s.count) ≤ length before
   pub done : List ℕ
   pub left : LinesLeft h s k done
   pub written : Written before at done now next
 
-pub written_start : (h : List ℕ) (s : Setting) (before : List ℕ) (at : ℕ) → (at + length (record_lines h s 1 s.count) ≤ length before) × Passed h s
+pub written_start : (h : List ℕ) (s : Setting) (before : List ℕ) (at : ℕ) → at + length (record_lines h s 1 s.count) ≤ length before → records_rows h s 1 s.count ≡ 0
     → LinesWritten h s before at 1 before at
-written_start h s before at p = record {
-  passed = p.1;
-  room = p.0;
+written_start h s before at m z = record {
+  clear = z;
+  room = m;
   done = [];
   left = left-start h s;
   written = record { bytes = sym (laid-nothing before at); next = sym (add-zero at) };
@@ -92,7 +92,7 @@ module _ {h : List ℕ} {s : Setting} {before : List ℕ} {at k : ℕ} {now : Li
 
   -- The next record passes too.
   pub written-clear : k ≤ s.count → record_rows h s k ≡ 0
-  written-clear m = rows-clear l.left.rows m l.passed.clear
+  written-clear m = rows-clear l.left.rows m l.clear
 
   module _ {r : Record} (more : k ≤ s.count) (e : r ≡ record_of h s k) where
     -- There is room for the next line.
@@ -101,7 +101,7 @@ module _ {h : List ℕ} {s : Setting} {before : List ℕ} {at k : ℕ} {now : Li
 
     pub written_turn : {now2 : List ℕ} {next2 : ℕ} → Written now next (record_line h s.form r) now2 next2 → LinesWritten h s before at (k + 1) now2 next2
     written_turn w = record {
-      passed = l.passed;
+      clear = l.clear;
       room = l.room;
       done = _;
       left = left_turn l.left more (written-clear more);

@@ -2,12 +2,10 @@
 use Rattle.std.specs.Prelude.{◌≡◌, cond, List, ℕ, ◌+◌, ◌*◌, ◌-◌, ◌≤◌, leb, length}
 use Rattle.rules.specs.Bytes.{laid}
 use Rattle.rules.specs.Layout.{limit, revision_limit, entry_limit, name_limit, name_at}
-use Rattle.rules.specs.Calls.{records_rows}
 use Rattle.rules.specs.Listing.{record_lines, Listed}
 use Rattle.rules.specs.declared.Form.{Form}
 use Rattle.rules.specs.declared.Setting.{Setting}
 use Rattle.rules.specs.declared.Record.{Record}
-use Rattle.whole.specs.Sound.{Sound}
 
 -- ---- How long texts are at most
 
@@ -52,11 +50,7 @@ pub record Shown (history : List ℕ) (f : Form) (r : Record) : Type 0 where
   pub inside : name_at f r + r.name ≤ length history
   pub short : length history ≤ limit
 
--- A history that every row has passed, and how long the lines of its records are.
-pub record Passed (history : List ℕ) (s : Setting) : Type 0 where
-  pub sound : Sound history s
-  pub clear : records_rows history s 1 s.count ≡ 0
-
+-- How long the lines of a history's records are.
 pub record Counted (history : List ℕ) (s : Setting) (n : ℕ) : Type 0 where
   pub all : n ≡ length (record_lines history s 1 s.count)
   pub few : n ≤ records_most

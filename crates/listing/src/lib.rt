@@ -6,10 +6,10 @@ ghost use Rattle.rules.specs.Layout.{name_limit};
 ghost use Rattle.rules.specs.Calls.{records_rows};
 ghost use Rattle.rules.specs.Refusals.{told};
 ghost use Rattle.rules.specs.Listing.{decimal, yes_no, space, newline, refused_word, setting_line, record_line, record_lines, list_limit, list_rows, list};
-ghost use Rattle.whole.specs.Sound.{Sound};
-ghost use Rattle.listing.specs.Written.{Written, Shown, Passed, Counted, digits_most, flag_most, setting_most, record_most, refused_most, text_most, listed, fitted};
+ghost use Rattle.listing.specs.Written.{Written, Shown, Counted, digits_most, flag_most, setting_most, record_most, refused_most, text_most, listed, fitted};
 
 use rules::{Form, Record, Refusal, Setting};
+use whole::History;
 
 // For the list program a longer history than this counts as row 1.
 pub const LIST_LIMIT: usize = 65536;
@@ -161,51 +161,53 @@ fn put_record_line(out: &mut [u8], at: usize, history: &[u8], form: Form, r: Rec
 
 // Rows 7 and 8, record after record, and how long the records' lines are: they are counted on the way, so that no record is judged for
 // that alone.
-fn judge_records(history: &[u8], s: Setting) -> Result<usize, Refusal>
-    requires { Sound history.now s }
-    ensures number { told result ≡ records_rows history.now s 1 s.count }
-    ensures counted { IfOk result (λ n. Counted history.now s n) }
+fn judge_records(history: History<'_>) -> Result<usize, Refusal>
+    ensures number { let s = history.entry.setting in told result ≡ records_rows history.entry.bytes.now s 1 s.count }
+    ensures counted { IfOk result (λ n. Counted history.entry.bytes.now history.entry.setting n) }
 {
     let mut length: usize = 0;
-    for k in 1..=s.count {
-        let record = records::judge(history, s, k)?;
+    for k in 1..=history.setting.count {
+        let record = records::judge(history, k)?;
         length += record_length(record);
     }
     Ok(length)
 }
 
-// What a history says of itself, and how long its records' lines are.
+// A history that every row of the list has passed, and how long its records' lines are.
 #[derive(Clone, Copy)]
-struct Listable {
-    setting: Setting,
+struct Listable<'a> {
+    history: History<'a>,
     records: usize,
+    ghost clear: { records_rows history.bytes.now history.setting 1 history.setting.count ≡ 0 },
+    ghost counted: { Counted history.bytes.now history.setting records },
 }
 
 // The rows of the list: a history of more than so many bytes is refused as too long.
-fn judge(history: &[u8], most: usize) -> Result<Listable, Refusal>
+fn judge<'a>(history: &'a [u8], most: usize) -> Result<Listable<'a>, Refusal>
     ensures number { told result ≡ list_rows most history.now }
-    ensures passed { IfOk result (λ l. Passed history.now l.setting × Counted history.now l.setting l.records) }
+    ensures lent { IfOk result (λ l. l.history.bytes ≡ history.entry) }
 {
     if most < history.len() {
         return Err(Refusal::Length);
     }
-    let setting = whole::judge(history)?;
-    let records = judge_records(history, setting)?;
-    Ok(Listable { setting, records })
+    let history = whole::judge(history)?;
+    let records = judge_records(history)?;
+    Ok(Listable { history, records })
 }
 
 // ---- The records' lines
 
 // Each record is read once more, since there is no room to keep all of them until the text is known to fit.
-fn put_record_lines(out: &mut [u8], at: usize, history: &[u8], s: Setting) -> usize
-    requires { (at + length (record_lines history.now s 1 s.count) ≤ length out.old) × Passed history.now s }
-    ensures { Written out.old at (record_lines history.now s 1 s.count) out.new result }
+fn put_record_lines(out: &mut [u8], at: usize, lines: Listable<'_>) -> usize
+    requires { let h = lines.history in at + length (record_lines h.bytes.now h.setting 1 h.setting.count) ≤ length out.old }
+    ensures { let h = lines.entry.history in Written out.old at (record_lines h.bytes.now h.setting 1 h.setting.count) out.new result }
 {
-    let form = s.form;
+    let history = lines.history;
+    let form = history.setting.form;
     let mut next = at;
-    for k in 1..=s.count {
-        let record = records::passed(history, s, k);
-        next = put_record_line(out, next, history, form, record);
+    for k in 1..=history.setting.count {
+        let record = records::passed(history, k);
+        next = put_record_line(out, next, history.bytes, form, record);
     }
     next
 }
@@ -226,15 +228,15 @@ fn list_refused(out: &mut [u8], number: u64) -> usize
 }
 
 // Writes the lines where there is room for all of them, and answers their length.
-fn list_passed(history: &[u8], out: &mut [u8], s: Setting, records: usize) -> usize
-    requires { Passed history.now s × Counted history.now s records }
-    ensures text { listed result out.new ≡ fitted out.old (setting_line s ++ record_lines history.now s 1 s.count) }
+fn list_passed(lines: Listable<'_>, out: &mut [u8]) -> usize
+    ensures text { let h = lines.entry.history in listed result out.new ≡ fitted out.old (setting_line h.setting ++ record_lines h.bytes.now h.setting 1 h.setting.count) }
     ensures short { result ≤ text_most }
 {
-    let total = setting_length(s) + records;
+    let s = lines.history.setting;
+    let total = setting_length(s) + lines.records;
     if total <= out.len() {
         let next = put_setting_line(out, 0, s);
-        put_record_lines(out, next, history, s);
+        put_record_lines(out, next, lines);
     }
     total
 }
@@ -246,7 +248,7 @@ pub fn list(history: &[u8], out: &mut [u8], most: usize) -> usize
     ensures short { result ≤ text_most }
 {
     match judge(history, most) {
-        Ok(lines) => list_passed(history, out, lines.setting, lines.records),
+        Ok(lines) => list_passed(lines, out),
         Err(refusal) => list_refused(out, u64::from(refusal)),
     }
 }

@@ -70,7 +70,8 @@ fn judge(original: &[u8], history: &[u8], revision: u64) -> Result<Revision, Ref
     ensures number { told result ≡ open_rows original.now history.now revision }
     ensures standing { IfOk result (λ r. Standing history.now r.setting (asked r.setting revision) r.record) }
 {
-    let setting = whole::judge_both(original, history)?;
+    let history = whole::judge_both(original, history)?;
+    let setting = history.setting;
     if revisions::revision_unknown(setting, revision) {
         return Err(Refusal::Revision);
     }
@@ -84,7 +85,7 @@ fn judge(original: &[u8], history: &[u8], revision: u64) -> Result<Revision, Ref
     if layout::REVISIONS <= setting.count {
         return Err(Refusal::Full);
     }
-    let record = records::judge(history, setting, k)?;
+    let record = records::judge(history, k)?;
     Ok(Revision { setting, record })
 }
 

@@ -28,11 +28,11 @@ ghost use Rattle.rules.specs.Rows.{entry_right, entries_right, record_lies, reco
 ghost use Rattle.rules.specs.Calls.{row, ◌then◌, record_rows};
 ghost use Rattle.rules.specs.Refusals.{told};
 ghost use Rattle.layout.specs.Paged.{Paged};
-ghost use Rattle.whole.specs.Sound.{Sound};
 ghost use Rattle.records.specs.Front.{descent_bytes};
 ghost use Rattle.records.specs.Sound.{Standing, index_in};
 
 use rules::{Entry, Form, Index, Record, Refusal, Setting};
+use whole::History;
 
 const SIGNATURE: [u8; 4] = *b"ORRS";
 
@@ -158,20 +158,20 @@ fn record_lies(s: Setting, r: Record) -> bool
 }
 
 // The fields ahead of the entries.
-fn record_fields(history: &[u8], s: Setting, k: u64, r: Record) -> bool
-    requires { r.address + front_width s.form ≤ length history.now }
-    ensures { result ≡ record_fields history.now s k r }
+fn record_fields(history: History<'_>, k: u64, r: Record) -> bool
+    requires { r.address + front_width history.setting.form ≤ length history.bytes.now }
+    ensures { result ≡ record_fields history.entry.bytes.now history.entry.setting k r }
 {
-    let form = s.form;
+    let s = history.setting;
     let at = r.address as usize;
     let time = at + TIME;
     let behind = time + 16;
-    parts::starts(history, at, form, SIGNATURE)
+    parts::starts(history.bytes, at, s.form, SIGNATURE)
         & (r.revision == k)
         & (r.parent < k)
-        & texts::time_right(&history[time..behind])
+        & texts::time_right(&history.bytes[time..behind])
         & ((s.original <= r.logical) & (r.logical <= layout::LIMIT))
-        & (r.page == form.page)
+        & (r.page == s.form.page)
 }
 
 // Whether an entry's addresses are allowed behind those before it, of which the next logical address may be `next`.
@@ -190,11 +190,11 @@ fn entry_right(s: Setting, r: Record, next: u64, e: Entry) -> bool
         & (e.physical <= r.address - form.page)
 }
 
-fn entries_right(history: &[u8], s: Setting, r: Record) -> bool
-    requires { (Paged s.form) × (page_allowed s.form.page ≡ true) × (r.address + front_width s.form + entries_width s.form r.entries ≤ length history.now) × (r.logical ≤ limit) }
-    ensures { result ≡ entries_right s r 0 (index_of history.now s.form r) }
+fn entries_right(history: History<'_>, r: Record) -> bool
+    requires { (r.address + front_width history.setting.form + entries_width history.setting.form r.entries ≤ length history.bytes.now) × (r.logical ≤ limit) }
+    ensures { let s = history.entry.setting in result ≡ entries_right s r 0 (index_of history.entry.bytes.now s.form r) }
 {
-    let form = s.form;
+    let form = history.setting.form;
     let x = Index {
         form,
         at: r.address as usize + layout::front_width(form),
@@ -202,8 +202,8 @@ fn entries_right(history: &[u8], s: Setting, r: Record) -> bool
     };
     let mut next: u64 = 0;
     for k in 0..x.entries {
-        let e = index::entry(history, x, k);
-        if !entry_right(s, r, next, e) {
+        let e = index::entry(history.bytes, x, k);
+        if !entry_right(history.setting, r, next, e) {
             return false;
         }
         next = e.logical + 1;
@@ -223,20 +223,20 @@ fn texts_right(history: &[u8], form: Form, r: Record) -> bool
 }
 
 // Row 7.
-fn record_wrong(history: &[u8], s: Setting, k: u64, r: Record) -> bool
-    requires { (Sound history.now s) × (r.address + front_width s.form ≤ length history.now) }
-    ensures { result ≡ record_wrong history.now s k r }
+fn record_wrong(history: History<'_>, k: u64, r: Record) -> bool
+    requires { r.address + front_width history.setting.form ≤ length history.bytes.now }
+    ensures { result ≡ record_wrong history.entry.bytes.now history.entry.setting k r }
 {
-    if !record_lies(s, r) {
+    if !record_lies(history.setting, r) {
         return true;
     }
-    if !record_fields(history, s, k, r) {
+    if !record_fields(history, k, r) {
         return true;
     }
-    if !entries_right(history, s, r) {
+    if !entries_right(history, r) {
         return true;
     }
-    !texts_right(history, s.form, r)
+    !texts_right(history.bytes, history.setting.form, r)
 }
 
 // ---- Row 8
@@ -322,42 +322,48 @@ fn apart(s: Setting, at: u64, size: u64) -> bool
 }
 
 // Rows 7 and 8 of a record that was read where its location says.
-fn judge_read(history: &[u8], s: Setting, k: u64, r: Record) -> Result<(), Refusal>
-    requires { (Sound history.now s) × (r.address + front_width s.form ≤ length history.now) }
-    ensures { told result ≡ row 7 (record_wrong history.now s k r) then row 8 (record_sum_wrong history.now s.form r) }
+fn judge_read(history: History<'_>, k: u64, r: Record) -> Result<(), Refusal>
+    requires { r.address + front_width history.setting.form ≤ length history.bytes.now }
+    ensures { let h = history.entry.bytes.now in told result ≡ row 7 (record_wrong h history.entry.setting k r) then row 8 (record_sum_wrong h history.entry.setting.form r) }
 {
-    if record_wrong(history, s, k, r) {
+    if record_wrong(history, k, r) {
         return Err(Refusal::Record);
     }
-    if record_sum_wrong(history, s.form, r) {
+    if record_sum_wrong(history.bytes, history.setting.form, r) {
         return Err(Refusal::RecordSum);
     }
     Ok(())
 }
 
 // Rows 7 and 8 of a revision. A record that does not lie where a record may is refused before its fields are read.
-pub fn judge(history: &[u8], s: Setting, k: u64) -> Result<Record, Refusal>
-    requires { (Sound history.now s) × (k ≤ s.count) }
-    ensures number { told result ≡ record_rows history.now s k }
-    ensures sound { IfOk result (λ r. Standing history.now s k r) }
+pub fn judge(history: History<'_>, k: u64) -> Result<Record, Refusal>
+    requires { k ≤ history.setting.count }
+    ensures number { told result ≡ record_rows history.entry.bytes.now history.entry.setting k }
+    ensures sound { IfOk result (λ r. Standing history.entry.bytes.now history.entry.setting k r) }
 {
+    let s = history.setting;
     if k == 0 {
         return Ok(no_record(s));
     }
-    let place = whole::location_of(history, s, k);
+    let place = history.location_of(k);
     if apart(s, place.address, place.size) {
         return Err(Refusal::Record);
     }
-    let record = record_at(history, s.form, place.address as usize, place.size);
-    judge_read(history, s, k, record)?;
+    let record = record_at(history.bytes, s.form, place.address as usize, place.size);
+    judge_read(history, k, record)?;
     Ok(record)
 }
 
 // The record of a revision that the rows have passed before: it is read and not judged again.
-pub fn passed(history: &[u8], s: Setting, k: u64) -> Record
-    requires { (Sound history.now s) × (0 < k) × (k ≤ s.count) × (record_rows history.now s k ≡ 0) }
-    ensures { result ≡ record_of history.now s k }
+pub fn passed(history: History<'_>, k: u64) -> Record
+    requires { (0 < k) × (k ≤ history.setting.count) × (record_rows history.bytes.now history.setting k ≡ 0) }
+    ensures { result ≡ record_of history.entry.bytes.now history.entry.setting k }
 {
-    let place = whole::location_of(history, s, k);
-    record_at(history, s.form, place.address as usize, place.size)
+    let place = history.location_of(k);
+    record_at(
+        history.bytes,
+        history.setting.form,
+        place.address as usize,
+        place.size,
+    )
 }

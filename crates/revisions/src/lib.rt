@@ -5,11 +5,11 @@ ghost use Rattle.std.specs.Prelude.{◌≡◌, IfOk};
 ghost use Rattle.rules.specs.Rows.{revision_unknown};
 ghost use Rattle.rules.specs.Calls.{row, ◌then◌, record_rows, asked, revision_rows, browse_rows};
 ghost use Rattle.rules.specs.Refusals.{told};
-ghost use Rattle.whole.specs.Sound.{Sound};
 ghost use Rattle.records.specs.Sound.{Standing};
 
 use records::Revision;
 use rules::{Refusal, Setting};
+use whole::History;
 
 // 2^64 - 1 asks for the newest.
 const NEWEST: u64 = u64::MAX;
@@ -32,15 +32,15 @@ pub fn asked(s: Setting, revision: u64) -> u64
 }
 
 // Rows 6, 7, 8 of a sound history.
-fn judge_asked(history: &[u8], s: Setting, revision: u64) -> Result<Revision, Refusal>
-    requires { Sound history.now s }
-    ensures number { told result ≡ row 6 (revision_unknown s revision) then record_rows history.now s (asked s revision) }
-    ensures standing { IfOk result (λ r. Standing history.now r.setting (asked r.setting revision) r.record) }
+fn judge_asked(history: History<'_>, revision: u64) -> Result<Revision, Refusal>
+    ensures number { let s = history.entry.setting in told result ≡ row 6 (revision_unknown s revision) then record_rows history.entry.bytes.now s (asked s revision) }
+    ensures standing { IfOk result (λ r. Standing history.entry.bytes.now r.setting (asked r.setting revision) r.record) }
 {
+    let s = history.setting;
     if revision_unknown(s, revision) {
         return Err(Refusal::Revision);
     }
-    let record = records::judge(history, s, asked(s, revision))?;
+    let record = records::judge(history, asked(s, revision))?;
     Ok(Revision { setting: s, record })
 }
 
@@ -49,8 +49,8 @@ pub fn judge(original: &[u8], history: &[u8], revision: u64) -> Result<Revision,
     ensures number { told result ≡ revision_rows original.now history.now revision }
     ensures standing { IfOk result (λ r. Standing history.now r.setting (asked r.setting revision) r.record) }
 {
-    let setting = whole::judge_both(original, history)?;
-    judge_asked(history, setting, revision)
+    let history = whole::judge_both(original, history)?;
+    judge_asked(history, revision)
 }
 
 // Rows 1, 2, 3, 5, 6, 7, 8, where no original is lent: by itself, since the paper has an order for it by itself.
@@ -58,6 +58,6 @@ pub fn judge_alone(history: &[u8], revision: u64) -> Result<Revision, Refusal>
     ensures number { told result ≡ browse_rows history.now revision }
     ensures standing { IfOk result (λ r. Standing history.now r.setting (asked r.setting revision) r.record) }
 {
-    let setting = whole::judge(history)?;
-    judge_asked(history, setting, revision)
+    let history = whole::judge(history)?;
+    judge_asked(history, revision)
 }

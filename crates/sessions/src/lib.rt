@@ -9,11 +9,11 @@ ghost use Rattle.rules.specs.Session.{ended};
 ghost use Rattle.rules.specs.Rows.{pages_fit, session_wrong};
 ghost use Rattle.rules.specs.Calls.{session_rows, begin_rows, held_rows};
 ghost use Rattle.rules.specs.Refusals.{told};
-ghost use Rattle.whole.specs.Sound.{Sound};
 ghost use Rattle.sessions.specs.Sound.{SoundSession};
 
 use records::Revision;
-use rules::{Refusal, Setting, State};
+use rules::{Refusal, State};
+use whole::History;
 
 // The ended session, which fits no history.
 pub fn ended() -> State
@@ -54,10 +54,10 @@ fn pages_fit(pages: &[u32], page: u64, size: u64) -> bool
 }
 
 // Row 13, but for its last condition. The session may be any numbers, so a sum waits until its parts are known to be small.
-fn session_wrong(history: &[u8], s: Setting, st: State) -> bool
-    requires { Sound history.now s }
-    ensures { result ≡ session_wrong (length history.now) s st }
+fn session_wrong(history: History<'_>, st: State) -> bool
+    ensures { result ≡ session_wrong (length history.entry.bytes.now) history.entry.setting st }
 {
+    let s = history.setting;
     let form = s.form;
     let fitting = s.lock
         & (st.end == layout::end_of(form, s.address, s.size))
@@ -70,7 +70,7 @@ fn session_wrong(history: &[u8], s: Setting, st: State) -> bool
     if !fitting {
         return true;
     }
-    if (history.len() as u64) < st.end + st.n * form.page {
+    if (history.bytes.len() as u64) < st.end + st.n * form.page {
         return true;
     }
     !pages_fit(&st.pages[..st.n as usize], form.page, st.size)
@@ -79,19 +79,21 @@ fn session_wrong(history: &[u8], s: Setting, st: State) -> bool
 // ---- A session's rows
 
 // Rows 13, 7, 8 and the last condition of 13: the parent of a session that fits its history.
-fn judge_session(st: State, history: &[u8], s: Setting) -> Result<Revision, Refusal>
-    requires { Sound history.now s }
-    ensures number { told result ≡ session_rows history.now s st }
-    ensures sound { IfOk result (λ parent. SoundSession history.now parent.setting st parent.record) }
+fn judge_session(st: State, history: History<'_>) -> Result<Revision, Refusal>
+    ensures number { told result ≡ session_rows history.entry.bytes.now history.entry.setting st }
+    ensures sound { IfOk result (λ parent. SoundSession history.entry.bytes.now parent.setting st parent.record) }
 {
-    if session_wrong(history, s, st) {
+    if session_wrong(history, st) {
         return Err(Refusal::Session);
     }
-    let record = records::judge(history, s, st.parent)?;
+    let record = records::judge(history, st.parent)?;
     if st.size < record.logical {
         return Err(Refusal::Session);
     }
-    Ok(Revision { setting: s, record })
+    Ok(Revision {
+        setting: history.setting,
+        record,
+    })
 }
 
 // Rows 1 to 5, 13, 7, 8, which session read and write begin with.
@@ -99,8 +101,8 @@ pub fn judge(st: State, original: &[u8], history: &[u8]) -> Result<Revision, Ref
     ensures number { told result ≡ begin_rows st original.now history.now }
     ensures sound { IfOk result (λ parent. SoundSession history.now parent.setting st parent.record) }
 {
-    let setting = whole::judge_both(original, history)?;
-    judge_session(st, history, setting)
+    let history = whole::judge_both(original, history)?;
+    judge_session(st, history)
 }
 
 // Rows 1, 2, 3, 5, 13, 7, 8, which commit begins with: by itself, since the paper has an order for it by itself.
@@ -108,6 +110,6 @@ pub fn judge_alone(st: State, history: &[u8]) -> Result<Revision, Refusal>
     ensures number { told result ≡ held_rows st history.now }
     ensures sound { IfOk result (λ parent. SoundSession history.now parent.setting st parent.record) }
 {
-    let setting = whole::judge(history)?;
-    judge_session(st, history, setting)
+    let history = whole::judge(history)?;
+    judge_session(st, history)
 }

@@ -6,6 +6,7 @@ ghost use Rattle.rules.specs.Layout.{limit, entry_limit, front_width};
 ghost use Rattle.rules.specs.Telling.{tell_setting, record_told, tell_record};
 
 use rules::{Form, Part, Record, RecordTold, SettingTold};
+use whole::History;
 
 // ---- The setting
 
@@ -14,7 +15,7 @@ pub fn setting_of(history: &[u8]) -> SettingTold
     ensures { result ≡ tell_setting history.now }
 {
     match whole::judge(history) {
-        Ok(s) => SettingTold {
+        Ok(History { setting: s, .. }) => SettingTold {
             number: 0,
             page: s.form.page,
             original: s.original,

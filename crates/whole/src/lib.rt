@@ -30,6 +30,14 @@ const SIGNATURE: [u8; 4] = *b"OWHR";
 // The bytes ahead of the locations.
 const FRONT: usize = 16;
 
+// A history that rows 1, 2, 3 and 5 have passed, with what it says of itself.
+#[derive(Clone, Copy)]
+pub struct History<'a> {
+    pub bytes: &'a [u8],
+    pub setting: Setting,
+    ghost sound: { Sound bytes.now setting },
+}
+
 // ---- Row 5
 
 // Whether the whole history lies where it may. Address and size may be any numbers, so each sum waits until its parts are small.
@@ -75,10 +83,10 @@ fn whole_wrong(history: &[u8], s: Setting) -> bool
 }
 
 // Row 5 of a history that rows 1 to 3 have passed: what the history says of itself. Its count is read once it is known to stand there.
-fn judge_whole(history: &[u8]) -> Result<Setting, Refusal>
+fn judge_whole<'a>(history: &'a [u8]) -> Result<History<'a>, Refusal>
     requires { header_rows history.now ≡ 0 }
     ensures number { told result ≡ row 5 (whole_wrong history.now (setting_of history.now)) }
-    ensures sound { IfOk result (λ s. Sound history.now s) }
+    ensures lent { IfOk result (λ h. h.bytes ≡ history.entry) }
 {
     let front = header::setting_with(history, 0);
     if !lies(history.len() as u64, front) {
@@ -89,22 +97,25 @@ fn judge_whole(history: &[u8]) -> Result<Setting, Refusal>
     if whole_wrong(history, setting) {
         return Err(Refusal::Whole);
     }
-    Ok(setting)
+    Ok(History {
+        bytes: history,
+        setting,
+    })
 }
 
 // Rows 1, 2, 3, 5.
-pub fn judge(history: &[u8]) -> Result<Setting, Refusal>
+pub fn judge<'a>(history: &'a [u8]) -> Result<History<'a>, Refusal>
     ensures number { told result ≡ history_rows history.now (setting_of history.now) }
-    ensures sound { IfOk result (λ s. Sound history.now s) }
+    ensures lent { IfOk result (λ h. h.bytes ≡ history.entry) }
 {
     header::header_rows(history)?;
     judge_whole(history)
 }
 
 // Rows 1 to 5: an order of the paper by itself, with row 4 between the others, so it is no case of the function above.
-pub fn judge_both(original: &[u8], history: &[u8]) -> Result<Setting, Refusal>
+pub fn judge_both<'a>(original: &[u8], history: &'a [u8]) -> Result<History<'a>, Refusal>
     ensures number { told result ≡ both_rows original.now history.now (setting_of history.now) }
-    ensures sound { IfOk result (λ s. Sound history.now s) }
+    ensures lent { IfOk result (λ h. h.bytes ≡ history.entry) }
 {
     header::header_rows(history)?;
     let front = header::setting_with(history, 0);
@@ -123,16 +134,18 @@ pub struct Location {
     pub size: u64,
 }
 
-// The location of a revision from 1 on.
-pub fn location_of(history: &[u8], s: Setting, k: u64) -> Location
-    requires { (Sound history.now s) × (0 < k) × (k ≤ s.count) }
-    ensures { (result.address ≡ address_at s.form history.now (location_at s k)) × (result.size ≡ located_size history.now (location_at s k)) }
-{
-    let form = s.form;
-    let at = s.address as usize + FRONT + layout::LOCATION * (k - 1) as usize;
-    let address = layout::get_address(form, history, at);
-    let size = numbers::get::<8>(history, at + 8);
-    Location { address, size }
+impl History<'_> {
+    // The location of a revision from 1 on.
+    pub fn location_of(self, k: u64) -> Location
+        requires { (0 < k) × (k ≤ self.setting.count) }
+        ensures { let s = self.entry.setting in (result.address ≡ address_at s.form self.entry.bytes.now (location_at s k)) × (result.size ≡ located_size self.entry.bytes.now (location_at s k)) }
+    {
+        let s = self.setting;
+        let at = s.address as usize + FRONT + layout::LOCATION * (k - 1) as usize;
+        let address = layout::get_address(s.form, self.bytes, at);
+        let size = numbers::get::<8>(self.bytes, at + 8);
+        Location { address, size }
+    }
 }
 
 // Stores the location of a record.

@@ -9,5 +9,6 @@ returns-in-Err c = check_refused _ c.in-Err.ensures.number (refused _)
 
 pub returns-in-Ok : goal.returns-in-Ok
 returns-in-Ok c =
-    let whole = c.in-Ok.ensures in
-    check_passed _ whole.number refl whole.sound.setting c.check_revisions.ensures
+    let whole = c.in-Ok in
+    let ahead = whole.ensures in
+    check_passed _ ahead.number refl (rw ahead.lent at whole.history.sound.setting) (rw ahead.lent at c.check_revisions.ensures)

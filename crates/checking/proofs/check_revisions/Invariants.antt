@@ -4,7 +4,7 @@ use Rattle.checking.proofs.Checking.{RevisionsLeft, EntriesLeft}
 use Rattle.checking.proofs.check_revisions.Given as goal
 
 abbrev pub invariant-loop-j : goal.invariant-loop-j
-invariant-loop-j l = EntriesLeft l.history l.s l.k l.x (checked l.found) l.j
+invariant-loop-j l = EntriesLeft l.history.bytes.now l.history.setting l.k l.x (checked l.found) l.j
 
 abbrev pub invariant-revisions : goal.invariant-revisions
-invariant-revisions l = RevisionsLeft l.history l.s (checked l.found) l.k
+invariant-revisions l = RevisionsLeft l.history.bytes.now l.history.setting (checked l.found) l.k

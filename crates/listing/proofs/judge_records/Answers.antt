@@ -18,7 +18,7 @@ record_length-length-requires c =
     let shown = record-shown _ _ _ (omega arith) (sym judged.number) standing.sound standing.found in
     (shown.named, shown.few)
 
-more : (c : After-record_length-length) → LinesCounted c.args.history.now c.args.s (c.loop-k.k + 1) (c.loop-k.length + c.record_length-length.result)
+more : (c : After-record_length-length) → LinesCounted c.args.history.bytes.now c.args.history.setting (c.loop-k.k + 1) (c.loop-k.length + c.record_length-length.result)
 more c =
     let judged = c.in_ok-record.ensures in
     let clear = sym judged.number in
@@ -32,9 +32,9 @@ loop-k-preserved c = more (goal.at.loop-k-preserved c).After-record_length-lengt
 pub returns : goal.returns
 returns c =
     let counted = c.loop-k.invariant in
-    record { number = rows_end counted.left.rows c.loop-k-test.false; counted = count-end counted c.loop-k-test.false c.requires.few }
+    record { number = rows_end counted.left.rows c.loop-k-test.false; counted = count-end counted c.loop-k-test.false c.args.history.sound.few }
 
 pub returns-in_ok-record : goal.returns-in_ok-record
 returns-in_ok-record c =
     let counted = more (goal.at.returns-in_ok-record c).After-record_length-length in
-    record { number = rows_end counted.left.rows (omega arith); counted = count-end counted (omega arith) c.requires.few }
+    record { number = rows_end counted.left.rows (omega arith); counted = count-end counted (omega arith) c.args.history.sound.few }

@@ -3,4 +3,4 @@ use Rattle.listing.proofs.Text.{LinesCounted}
 use Rattle.listing.proofs.judge_records.Given as goal
 
 abbrev pub invariant-loop-k : goal.invariant-loop-k
-invariant-loop-k l = LinesCounted l.history l.s l.k l.length
+invariant-loop-k l = LinesCounted l.history.bytes.now l.history.setting l.k l.length

@@ -10,5 +10,6 @@ returns-in-Err c = record { text = c.list_refused.ensures.text ∙ rw c.from.ens
 
 pub returns-in-Ok : goal.returns-in-Ok
 returns-in-Ok c =
-    let judged = c.in-Ok.ensures in
-    record { text = c.list_passed.ensures.text ∙ list_lines _ _ _ judged.number refl judged.passed.0.sound.setting; short = search rules }
+    let judged = c.in-Ok in
+    let ahead = judged.ensures in
+    record { text = rw ahead.lent at (c.list_passed.ensures.text) ∙ list_lines _ _ _ ahead.number refl (rw ahead.lent at judged.lines.history.sound.setting); short = search rules }

@@ -6,5 +6,5 @@ use Rattle.listing.proofs.list_passed.Goals as goal
 
 pub returns-then-total-out-clause-text : goal.returns-then-total-out-clause-text
 returns-then-total-out-clause-text c =
-    let long = lines_long _ _ c.setting_length.ensures.0 c.requires.1.all in
+    let long = lines_long _ _ c.setting_length.ensures.0 c.args.lines.counted.all in
     fitted_whole _ _ long c.if-total-out.true (written_then c.put_setting_line-next.ensures c.put_record_lines.ensures (search rules))

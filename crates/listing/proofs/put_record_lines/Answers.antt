@@ -5,19 +5,19 @@ use Rattle.listing.proofs.Text.{written_start, written-clear, written-room, writ
 use Rattle.listing.proofs.put_record_lines.Goals as goal
 
 pub loop-k-init : goal.loop-k-init
-loop-k-init c = written_start _ _ _ _ c.requires
+loop-k-init c = written_start _ _ _ _ c.requires c.args.lines.clear
 
 pub passed-record-requires : goal.passed-record-requires
 passed-record-requires c =
     let clear = written-clear c.loop-k.invariant c.loop-k-test.true in
-    (c.requires.1.sound, omega arith, omega arith, clear)
+    (omega arith, omega arith, clear)
 
 pub put_record_line-next-requires : goal.put_record_line-next-requires
 put_record_line-next-requires c =
     let lines = c.loop-k.invariant in
     let more = c.loop-k-test.true in
     let found = c.passed-record.ensures in
-    let sound = c.requires.1.sound in
+    let sound = c.args.lines.history.sound in
     (written-room lines more found, record-shown _ _ _ (omega arith) (written-clear lines more) sound found)
 
 pub loop-k-preserved : goal.loop-k-preserved

@@ -16,7 +16,7 @@ returns-then-not-entry_right c =
     entries-fault c.loop-k.invariant (omega arith) c.entry-e.ensures c.entry_right.ensures start (ap not c.if-not-entry_right.true)
 
 pub overflow_add-next : goal.overflow_add-next
-overflow_add-next c = omega (arith, entries-small c.loop-k.invariant (omega arith) c.entry-e.ensures c.entry_right.ensures (ap not c.if-not-entry_right.false), c.requires.3)
+overflow_add-next c = omega (arith, entries-small c.loop-k.invariant (omega arith) c.entry-e.ensures c.entry_right.ensures (ap not c.if-not-entry_right.false), c.requires.1)
 
 pub loop-k-preserved : goal.loop-k-preserved
 loop-k-preserved c = entries_turn c.loop-k.invariant (omega arith) c.entry-e.ensures c.entry_right.ensures (ap not c.if-not-entry_right.false)

@@ -9,7 +9,7 @@ pub returns-then-k-eq0 : goal.returns-then-k-eq0
 returns-then-k-eq0 c =
     let none = c.no_record.ensures in
     let zero = c.if-k-eq0.true in
-    record { number = rows_none _ _ _ zero; sound = record { sound = c.requires.0; known = c.requires.1; found = none_is _ _ _ zero none; right = none-sound _ _ c.requires.0 none } }
+    record { number = rows_none _ _ _ zero; sound = record { sound = c.args.history.sound; known = c.requires; found = none_is _ _ _ zero none; right = none-sound _ _ c.args.history.sound none } }
 
 pub returns-then-apart-clause-number : goal.returns-then-apart-clause-number
 returns-then-apart-clause-number c =
@@ -19,7 +19,7 @@ returns-then-apart-clause-number c =
 pub judge_read-requires : goal.judge_read-requires
 judge_read-requires c =
     let lies = c.apart.ensures.0 c.if-apart.false in
-    (c.requires.0, omega (arith, lies.0, lies.1, c.requires.0.inside, record_address _ _ _ _ c.record_at-record.ensures))
+    omega (arith, lies.0, lies.1, c.args.history.sound.inside, record_address _ _ _ _ c.record_at-record.ensures)
 
 pub returns-in_err-judge_read-clause-number : goal.returns-in_err-judge_read-clause-number
 returns-in_err-judge_read-clause-number c =
@@ -31,4 +31,4 @@ returns c =
     let place = c.location_of-place.ensures in
     let read = c.record_at-record.ensures in
     let number = c.in_ok-judge_read.ensures in
-    record { number = rows_of _ _ _ (omega arith) place.0 place.1 read number; sound = record { sound = c.requires.0; known = c.requires.1; found = is_record _ _ _ (omega arith) place.0 place.1 read; right = rows-sound _ _ _ _ number refl } }
+    record { number = rows_of _ _ _ (omega arith) place.0 place.1 read number; sound = record { sound = c.args.history.sound; known = c.requires; found = is_record _ _ _ (omega arith) place.0 place.1 read; right = rows-sound _ _ _ _ number refl } }

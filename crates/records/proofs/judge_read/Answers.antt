@@ -13,8 +13,8 @@ pub record_sum_wrong-requires : goal.record_sum_wrong-requires
 record_sum_wrong-requires c =
     let r = c.args.r in
     let w = (record-right _ _ _ _ (sym c.record_wrong.ensures ∙ c.if-record_wrong.false)).lies in
-    let p = c.requires.0 in
-    let e = end-behind c.args.s.form r.address r.size in
+    let p = c.args.history.sound in
+    let e = end-behind c.args.history.setting.form r.address r.size in
     (omega (arith, w.ends, e, p.inside), omega (arith, w.ends, w.sized, e, p.inside), p.short, omega (arith, w.sized))
 
 pub returns-then-record_sum_wrong : goal.returns-then-record_sum_wrong

@@ -17,8 +17,8 @@ entries_right-requires c =
     let a = c.args in
     let l = lies_facts _ _ (sym c.record_lies.ensures ∙ c.if-not-record_lies.false) in
     let g = fields_logical _ _ _ _ (sym c.record_fields.ensures ∙ c.if-not-record_fields.false) in
-    let w = c.requires.0 in
-    (w.paged, w.allowed, omega (arith, l.ends, l.sized, w.inside, end-behind a.s.form a.r.address a.r.size), g.1)
+    let w = c.args.history.sound in
+    (omega (arith, l.ends, l.sized, w.inside, end-behind a.history.setting.form a.r.address a.r.size), g.1)
 
 pub returns-then-not-entries_right : goal.returns-then-not-entries_right
 returns-then-not-entries_right c = wrong_entries _ _ _ _ (sym c.record_lies.ensures ∙ c.if-not-record_lies.false) (sym c.record_fields.ensures ∙ c.if-not-record_fields.false) (sym c.entries_right.ensures ∙ c.if-not-entries_right.true)
@@ -27,8 +27,8 @@ pub texts_right-requires : goal.texts_right-requires
 texts_right-requires c =
     let a = c.args in
     let l = lies_facts _ _ (sym c.record_lies.ensures ∙ c.if-not-record_lies.false) in
-    let w = c.requires.0 in
-    (omega (arith, l.ends, l.sized, w.inside, end-behind a.s.form a.r.address a.r.size), w.short, l.few)
+    let w = c.args.history.sound in
+    (omega (arith, l.ends, l.sized, w.inside, end-behind a.history.setting.form a.r.address a.r.size), w.short, l.few)
 
 pub returns : goal.returns
 returns c = wrong_texts _ _ _ _ (sym c.record_lies.ensures ∙ c.if-not-record_lies.false) (sym c.record_fields.ensures ∙ c.if-not-record_fields.false) (sym c.entries_right.ensures ∙ c.if-not-entries_right.false) c.texts_right.ensures

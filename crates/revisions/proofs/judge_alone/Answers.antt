@@ -6,13 +6,14 @@ use Rattle.rules.proofs.Refusals.{refused-ahead}
 use Rattle.revisions.proofs.Known.{asked_rows}
 use Rattle.revisions.proofs.judge_alone.Goals as goal
 
-pub returns-in_err-setting-clause-number : goal.returns-in_err-setting-clause-number
+pub returns-in_err-history-clause-number : goal.returns-in_err-history-clause-number
 unfolding browse_rows
-returns-in_err-setting-clause-number c = refused-ahead _ _ _ c.from_residual.ensures.1 c.in_err-setting.ensures.number
+returns-in_err-history-clause-number c = refused-ahead _ _ _ c.from_residual.ensures.1 c.in_err-history.ensures.number
 
 pub returns : goal.returns
 unfolding browse_rows
 returns c =
-    let ahead = c.in_ok-setting.ensures in
+    let whole = c.in_ok-history in
+    let ahead = whole.ensures in
     let judged = c.judge_asked.ensures in
-    record { number = rows_past _ ahead.number refl (asked_rows _ _ ahead.sound judged.number); standing = judged.standing }
+    record { number = rows_past _ ahead.number refl (rw ahead.lent at (asked_rows _ _ whole.history.sound judged.number)); standing = rw ahead.lent at judged.standing }

@@ -11,7 +11,7 @@ returns-then-revision_unknown-clause-number c = row-holds 6 _ (omega arith) c.re
 
 pub judge-requires : goal.judge-requires
 judge-requires c =
-    (c.requires, asked_is _ _ c.asked.ensures (sym c.revision_unknown.ensures ∙ c.if-revision_unknown.false))
+    asked_is _ _ c.asked.ensures (sym c.revision_unknown.ensures ∙ c.if-revision_unknown.false)
 
 pub returns-in_err-record-clause-number : goal.returns-in_err-record-clause-number
 returns-in_err-record-clause-number c =

@@ -6,13 +6,14 @@ use Rattle.rules.proofs.Refusals.{refused-ahead}
 use Rattle.sessions.proofs.Sound.{rows_of-history}
 use Rattle.sessions.proofs.judge_alone.Goals as goal
 
-pub returns-in_err-setting-clause-number : goal.returns-in_err-setting-clause-number
+pub returns-in_err-history-clause-number : goal.returns-in_err-history-clause-number
 unfolding held_rows
-returns-in_err-setting-clause-number c = refused-ahead _ _ _ c.from_residual.ensures.1 c.in_err-setting.ensures.number
+returns-in_err-history-clause-number c = refused-ahead _ _ _ c.from_residual.ensures.1 c.in_err-history.ensures.number
 
 pub returns : goal.returns
 unfolding held_rows
 returns c =
-    let ahead = c.in_ok-setting.ensures in
+    let whole = c.in_ok-history in
+    let ahead = whole.ensures in
     let judged = c.judge_session.ensures in
-    record { number = rows_past _ ahead.number refl (rows_of-history c.args.st ahead.sound judged.number); sound = judged.sound }
+    record { number = rows_past _ ahead.number refl (rw ahead.lent at (rows_of-history c.args.st whole.history.sound judged.number)); sound = rw ahead.lent at judged.sound }

@@ -15,7 +15,7 @@ returns-then-session_wrong-clause-number c = row-holds 13 _ (omega arith) c.sess
 pub judge-requires : goal.judge-requires
 judge-requires c =
     let w = session-right _ _ _ (sym c.session_wrong.ensures ∙ c.if-session_wrong.false) in
-    (c.requires, omega (arith, w.parent, w.count))
+    omega (arith, w.parent, w.count)
 
 pub returns-in_err-record-clause-number : goal.returns-in_err-record-clause-number
 unfolding session_rows

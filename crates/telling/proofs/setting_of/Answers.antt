@@ -11,5 +11,6 @@ returns-in-Err c =
 
 pub returns-in-Ok : goal.returns-in-Ok
 returns-in-Ok c =
-    let whole = c.in-Ok.ensures in
-    setting_told_lem _ whole.number refl whole.sound (rw c.end_of.ensures)
+    let whole = c.in-Ok in
+    let ahead = whole.ensures in
+    setting_told_lem _ ahead.number refl (rw ahead.lent at whole.field-0.sound) (rw c.end_of.ensures)

@@ -11,4 +11,4 @@ returns-in_err-header_rows-clause-number c = refused-ahead _ _ _ c.from_residual
 
 pub returns : goal.returns
 unfolding history_rows
-returns c = let h = c.in_ok-header_rows.ensures in record { number = rows_past _ h refl c.judge_whole.ensures.number; sound = c.judge_whole.ensures.sound }
+returns c = let h = c.in_ok-header_rows.ensures in record { number = rows_past _ h refl c.judge_whole.ensures.number; lent = c.judge_whole.ensures.lent }

@@ -26,4 +26,4 @@ unfolding both_rows
 returns c =
     let whole = c.judge_whole.ensures in
     let fits = original_fits _ _ c.setting_with-front.ensures c.if-original-front.false in
-    record { number = rows_past _ c.in_ok-header_rows.ensures refl (row_past 4 _ fits refl whole.number); sound = whole.sound }
+    record { number = rows_past _ c.in_ok-header_rows.ensures refl (row_past 4 _ fits refl whole.number); lent = whole.lent }

@@ -43,8 +43,13 @@ returns-then-whole_wrong-clause-number c =
     let t = counted-setting _ c.setting_with-front.ensures c.get-count.ensures.0 c.setting_with-setting.ensures in
     last-holds 5 (whole_of _ t c.whole_wrong.ensures) c.if-whole_wrong.true
 
+pub invariant_of-result : goal.invariant_of-result
+invariant_of-result c =
+    let t = counted-setting _ c.setting_with-front.ensures c.get-count.ensures.0 c.setting_with-setting.ensures in
+    record { sound = sound _ c.requires t (sym c.whole_wrong.ensures ∙ c.if-whole_wrong.false) }
+
 pub returns : goal.returns
 returns c =
     let wrong = c.whole_wrong.ensures in
     let t = counted-setting _ c.setting_with-front.ensures c.get-count.ensures.0 c.setting_with-setting.ensures in
-    record { number = last_past 5 (whole_of _ t wrong) c.if-whole_wrong.false; sound = sound _ c.requires t (sym wrong ∙ c.if-whole_wrong.false) }
+    record { number = last_past 5 (whole_of _ t wrong) c.if-whole_wrong.false; lent = refl }
