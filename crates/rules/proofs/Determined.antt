@@ -1,9 +1,12 @@
 -- A promise that tells an answer's number leaves no choice of the refusal.
 use mathlib.Core.Path.{◌≡◌, ap, sym, ◌∙◌}
+use mathlib.Core.List.{List}
 use Prim.Native.Nat.{ℕ}
 use Rattle.std.specs.Prelude.{Result, Ok, Err}
-use Rattle.rules.specs.declared.Refusal.{Refusal}
 use Rattle.rules.specs.Refusals.{told}
+use Rattle.rules.specs.Calls.{Outcome, outcome}
+use Rattle.rules.specs.declared.Refusal.{Refusal}
+use Rattle.rules.specs.declared.State.{State}
 use Rattle.rules.proofs.Refusals.{refused, same_refusal}
 
 -- Of two answers that tell one number, the other is refused alike where one is.
@@ -13,3 +16,14 @@ alike one (Err f) e h q = ap Err (same_refusal f e (sym h ∙ ap told q))
 
 pub told_determined : {A : Type 0} {rule : ℕ} (one other : Result A Refusal) (e : Refusal) → told one ≡ rule → told other ≡ rule → one ≡ Err e → other ≡ Err e
 told_determined one other e a b q = alike one other e (a ∙ sym b) q
+
+-- What a session call answers and leaves: two outcomes that are equal are of the same answer and the same bytes.
+outcomes : (st : State) (one other : Result State Refusal) {x y : List ℕ} → outcome st one x ≡ outcome st other y → (one ≡ other) × (x ≡ y)
+outcomes st (Ok a) (Ok b) e = (ap (λ (o : Outcome). Ok o.session) e, ap (λ (o : Outcome). o.bytes) e)
+outcomes st (Ok a) (Err f) e = absurd (refused f (sym (ap (λ (o : Outcome). o.number) e)))
+outcomes st (Err d) (Ok b) e = absurd (refused d (ap (λ (o : Outcome). o.number) e))
+outcomes st (Err d) (Err f) e = (ap Err (same_refusal d f (ap (λ (o : Outcome). o.number) e)), ap (λ (o : Outcome). o.bytes) e)
+
+pub outcome_determined : (rule : Outcome) (st : State) (one other : Result State Refusal) {x y : List ℕ} → outcome st one x ≡ rule → outcome st other y ≡ rule
+    → (one ≡ other) × (x ≡ y)
+outcome_determined rule st one other a b = outcomes st one other (a ∙ sym b)
