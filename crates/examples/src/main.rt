@@ -7,6 +7,7 @@ use browsing::Stands;
 use rules::{Refusal, State};
 use std::io;
 use store::Session;
+use whole::History;
 
 // A pattern of twenty bytes.
 const ORIGINAL: [u8; 20] = *b"shade net, two bars.";
@@ -96,7 +97,7 @@ fn show_places(rt: &impl Print, history: &[u8]) -> io::Result<()> {
     };
     say(rt, b"  record at", record.offset)?;
     say(rt, b"  of", record.length)?;
-    let Ok(setting) = whole::judge(history) else {
+    let Ok(History { setting, .. }) = whole::judge(history) else {
         return Ok(());
     };
     say(rt, b"  whole history at", setting.address)?;

@@ -31,7 +31,7 @@ impl<'a> Reader<'a> {
         }
     }
 
-    // What stands at its place: an entry, the end, or 7.
+    // What stands at its place: an entry, the end, or that the bytes are refused.
     pub fn step(self) -> Stands
         ensures { stepped result ≡ browse_step self.entry.bytes.now self.entry.place }
     {
