@@ -18,7 +18,7 @@ ghost use Rattle.rules.specs.Layout.{
 };
 ghost use Rattle.rules.specs.Session.{merged_index, record_stored, setting_stored, locations_stored};
 ghost use Rattle.rules.specs.Rows.{texts_wrong, no_room};
-ghost use Rattle.rules.specs.Calls.{outcome, commit_rows, commit};
+ghost use Rattle.rules.specs.Calls.{Outcome, commit_rows, commit};
 ghost use Rattle.rules.specs.Refusals.{told};
 ghost use Rattle.layout.specs.Paged.{Paged, farthest};
 ghost use Rattle.whole.specs.Places.{Extensible};
@@ -91,14 +91,14 @@ struct Prepared {
 
 // Commit 1, 2, 3, 5, 13, 7, 8, 14, 16, 15. Row 13 has seen to it that no more than 256 pages are touched.
 fn prepare(
-    st: State,
+    st: &State,
     history: &[u8],
     time: &[u8],
     name: &[u8],
     comment: &[u8],
 ) -> Result<Prepared, Refusal>
-    ensures number { told result ≡ commit_rows st history.now time.now name.now comment.now }
-    ensures standing { IfOk result (λ p. Committable history.now p.parent.setting st p.parent.record p.record time.now name.now comment.now) }
+    ensures number { told result ≡ commit_rows st.now history.now time.now name.now comment.now }
+    ensures standing { IfOk result (λ p. Committable history.now p.parent.setting st.now p.parent.record p.record time.now name.now comment.now) }
 {
     let parent = sessions::judge_alone(st, history)?;
     let s = parent.setting;
@@ -110,7 +110,7 @@ fn prepare(
     if texts_wrong(time, name, comment) {
         return Err(Refusal::Texts);
     }
-    let record = record_stored(s, st, entries, name.len() as u64, comment.len() as u64);
+    let record = record_stored(s, *st, entries, name.len() as u64, comment.len() as u64);
     if no_room(history.len(), s, record) {
         return Err(Refusal::NoRoom);
     }
@@ -120,12 +120,12 @@ fn prepare(
 // ---- Stores, each behind the one before it
 
 // The record's front, and the merged index, which is put together where it stands from what lies ahead of the record.
-fn put_indexed(history: &mut [u8], st: State, p: Prepared, time: &[u8], user: u32)
-    requires { (Standing history.old p.parent.setting st p.parent.record p.record) × (length time.now ≡ 16) }
+fn put_indexed(history: &mut [u8], st: &State, p: Prepared, time: &[u8], user: u32)
+    requires { (Standing history.old p.parent.setting st.now p.parent.record p.record) × (length time.now ≡ 16) }
     ensures { let s = p.parent.setting in
         history.new ≡ laid history.old p.record.address
         (front_bytes s.form p.record time.now user
-        ++ index_bytes s.form (merged_index history.old s st (index_of history.old s.form p.parent.record))) }
+        ++ index_bytes s.form (merged_index history.old s st.now (index_of history.old s.form p.parent.record))) }
 {
     let form = p.parent.setting.form;
     let r = p.record;
@@ -162,20 +162,22 @@ fn put_end(history: &mut [u8], s: Setting, r: Record)
 
 // Commits a session, which ends with it.
 pub fn commit(
-    st: State,
+    st: &mut State,
     history: &mut [u8],
     time: &[u8],
     user: u32,
     name: &[u8],
     comment: &[u8],
-) -> Result<State, Refusal>
-    ensures { outcome st result history.new ≡ commit st history.old time.now user name.now comment.now }
+) -> Result<(), Refusal>
+    ensures { ◌≡◌ {A = Outcome} (record { number = told result; session = st.new; bytes = history.new })
+        (commit st.old history.old time.now user name.now comment.now) }
 {
-    let p = prepare(st, history, time, name, comment)?;
+    let p = prepare(&*st, history, time, name, comment)?;
     let s = p.parent.setting;
     let r = p.record;
-    put_indexed(history, st, p, time, user);
+    put_indexed(history, &*st, p, time, user);
     put_texts(history, s.form, r, name, comment);
     put_end(history, s, r);
-    Ok(sessions::ended())
+    *st = sessions::ended();
+    Ok(())
 }

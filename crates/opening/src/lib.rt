@@ -5,7 +5,7 @@ ghost use Rattle.std.specs.Prelude.{◌≡◌, ◌≤◌, length, IfOk};
 ghost use Rattle.rules.specs.Layout.{header_width, setting_of, with_lock};
 ghost use Rattle.rules.specs.Session.{ended, created_form, created_setting, opened, released};
 ghost use Rattle.rules.specs.Rows.{creation_wrong, not_newest};
-ghost use Rattle.rules.specs.Calls.{Reply, outcome, asked, create, open_rows, open_for_writing, release};
+ghost use Rattle.rules.specs.Calls.{Reply, Outcome, outcome, asked, create, open_rows, open_for_writing, release};
 ghost use Rattle.rules.specs.Refusals.{told};
 ghost use Rattle.layout.specs.Paged.{Paged, farthest};
 ghost use Rattle.records.specs.Sound.{Standing};
@@ -144,10 +144,12 @@ fn unlock(history: &mut [u8])
 }
 
 // Clears the lock and ends the session, whichever it is.
-pub fn release(st: State, history: &mut [u8]) -> Result<State, Refusal>
-    ensures { outcome st result history.new ≡ release st history.old }
+pub fn release(st: &mut State, history: &mut [u8]) -> Result<(), Refusal>
+    ensures { ◌≡◌ {A = Outcome} (record { number = told result; session = st.new; bytes = history.new })
+        (release st.old history.old) }
 {
     header::header_rows(history)?;
     unlock(history);
-    Ok(sessions::ended())
+    *st = sessions::ended();
+    Ok(())
 }

@@ -54,8 +54,8 @@ fn pages_fit(pages: &[u32], page: u64, size: u64) -> bool
 }
 
 // Row 13, but for its last condition. The session may be any numbers, so a sum waits until its parts are known to be small.
-fn session_wrong(history: History<'_>, st: State) -> bool
-    ensures { result ≡ session_wrong (length history.entry.bytes.now) history.entry.setting st }
+fn session_wrong(history: History<'_>, st: &State) -> bool
+    ensures { result ≡ session_wrong (length history.entry.bytes.now) history.entry.setting st.now }
 {
     let s = history.setting;
     let form = s.form;
@@ -79,9 +79,9 @@ fn session_wrong(history: History<'_>, st: State) -> bool
 // ---- A session's rows
 
 // Rows 13, 7, 8 and the last condition of 13: the parent of a session that fits its history.
-fn judge_session(st: State, history: History<'_>) -> Result<Revision, Refusal>
-    ensures number { told result ≡ session_rows history.entry.bytes.now history.entry.setting st }
-    ensures sound { IfOk result (λ parent. SoundSession history.entry.bytes.now parent.setting st parent.record) }
+fn judge_session(st: &State, history: History<'_>) -> Result<Revision, Refusal>
+    ensures number { told result ≡ session_rows history.entry.bytes.now history.entry.setting st.now }
+    ensures sound { IfOk result (λ parent. SoundSession history.entry.bytes.now parent.setting st.now parent.record) }
 {
     if session_wrong(history, st) {
         return Err(Refusal::Session);
@@ -97,18 +97,18 @@ fn judge_session(st: State, history: History<'_>) -> Result<Revision, Refusal>
 }
 
 // Rows 1 to 5, 13, 7, 8, which session read and write begin with.
-pub fn judge(st: State, original: &[u8], history: &[u8]) -> Result<Revision, Refusal>
-    ensures number { told result ≡ begin_rows st original.now history.now }
-    ensures sound { IfOk result (λ parent. SoundSession history.now parent.setting st parent.record) }
+pub fn judge(st: &State, original: &[u8], history: &[u8]) -> Result<Revision, Refusal>
+    ensures number { told result ≡ begin_rows st.now original.now history.now }
+    ensures sound { IfOk result (λ parent. SoundSession history.now parent.setting st.now parent.record) }
 {
     let history = whole::judge_both(original, history)?;
     judge_session(st, history)
 }
 
 // Rows 1, 2, 3, 5, 13, 7, 8, which commit begins with: by itself, since the paper has an order for it by itself.
-pub fn judge_alone(st: State, history: &[u8]) -> Result<Revision, Refusal>
-    ensures number { told result ≡ held_rows st history.now }
-    ensures sound { IfOk result (λ parent. SoundSession history.now parent.setting st parent.record) }
+pub fn judge_alone(st: &State, history: &[u8]) -> Result<Revision, Refusal>
+    ensures number { told result ≡ held_rows st.now history.now }
+    ensures sound { IfOk result (λ parent. SoundSession history.now parent.setting st.now parent.record) }
 {
     let history = whole::judge(history)?;
     judge_session(st, history)

@@ -1,8 +1,10 @@
-// A session as its user holds it: a value that each call takes and hands back.
+// A session as its user holds it: a value that each call takes and hands back. It has a kilobyte, so it goes by value here alone; what
+// stands below borrows it.
 #![tactic(auto)]
 
-ghost use Rattle.std.specs.Prelude.{◌≡◌, List, ℕ};
-ghost use Rattle.rules.specs.Calls.{Outcome, outcome, open_for_writing, session_read, write, commit, release};
+ghost use Rattle.std.specs.Prelude.{◌≡◌};
+ghost use Rattle.rules.specs.Refusals.{told};
+ghost use Rattle.rules.specs.Calls.{Outcome, open_for_writing, session_read, write, commit, release};
 
 use rules::{Refusal, State};
 
@@ -21,19 +23,17 @@ pub struct Answer {
     pub session: Session,
 }
 
-// A refused call hands back the session that stays.
-fn handed_back(answered: Result<State, Refusal>, stays: State) -> Answer
-    ensures { (bytes : List ℕ) → ◌≡◌ {A = Outcome} (record { number = result.number; session = result.session.state; bytes = bytes }) (outcome stays answered bytes) }
+// An answer beside the session that the call left: of a refused call, the one that it was given.
+fn beside(answered: Result<(), Refusal>, state: State) -> Answer
+    ensures { (result.number ≡ told answered) × (result.session.state ≡ state) }
 {
-    match answered {
-        Ok(state) => Answer {
-            number: 0,
-            session: Session { state },
-        },
-        Err(refusal) => Answer {
-            number: u64::from(refusal),
-            session: Session { state: stays },
-        },
+    let number = match answered {
+        Ok(()) => 0,
+        Err(refusal) => u64::from(refusal),
+    };
+    Answer {
+        number,
+        session: Session { state },
     }
 }
 
@@ -44,8 +44,8 @@ impl Session {
             (session_read self.state original.now history.now at out.old) }
     {
         let state = self.state;
-        let read = session_reading::session_read(state, original, history, at, out);
-        handed_back(read, state)
+        let read = session_reading::session_read(&state, original, history, at, out);
+        beside(read, state)
     }
 
     // Writes bytes from an offset on.
@@ -53,9 +53,9 @@ impl Session {
         ensures { ◌≡◌ {A = Outcome} (record { number = result.number; session = result.session.state; bytes = history.new })
             (write self.state original.now history.old at bytes.now) }
     {
-        let state = self.state;
-        let written = writing::write(state, original, history, at, bytes);
-        handed_back(written, state)
+        let mut state = self.state;
+        let written = writing::write(&mut state, original, history, at, bytes);
+        beside(written, state)
     }
 
     // Commits what was written as a new revision.
@@ -70,9 +70,9 @@ impl Session {
         ensures { ◌≡◌ {A = Outcome} (record { number = result.number; session = result.session.state; bytes = history.new })
             (commit self.state history.old time.now user name.now comment.now) }
     {
-        let state = self.state;
-        let committed = committing::commit(state, history, time, user, name, comment);
-        handed_back(committed, state)
+        let mut state = self.state;
+        let committed = committing::commit(&mut state, history, time, user, name, comment);
+        beside(committed, state)
     }
 
     // Gives up what was written, and clears the lock.
@@ -80,9 +80,9 @@ impl Session {
         ensures { ◌≡◌ {A = Outcome} (record { number = result.number; session = result.session.state; bytes = history.new })
             (release self.state history.old) }
     {
-        let state = self.state;
-        let released = opening::release(state, history);
-        handed_back(released, state)
+        let mut state = self.state;
+        let released = opening::release(&mut state, history);
+        beside(released, state)
     }
 }
 
@@ -91,6 +91,8 @@ pub fn open_for_writing(original: &[u8], history: &mut [u8], revision: u64) -> A
     ensures { ◌≡◌ {A = Outcome} (record { number = result.number; session = result.session.state; bytes = history.new })
         (open_for_writing original.now history.old revision) }
 {
-    let opened = opening::open_for_writing(original, history, revision);
-    handed_back(opened, sessions::ended())
+    match opening::open_for_writing(original, history, revision) {
+        Ok(state) => beside(Ok(()), state),
+        Err(refusal) => beside(Err(refusal), sessions::ended()),
+    }
 }

@@ -6,7 +6,7 @@ ghost use Rattle.rules.specs.Layout.{limit, index_of};
 ghost use Rattle.rules.specs.View.{own_pages, own_address, pages_shared};
 ghost use Rattle.rules.specs.Session.{Held, touching, written};
 ghost use Rattle.rules.specs.Rows.{write_too_far, too_many, no_room};
-ghost use Rattle.rules.specs.Calls.{outcome, row, ◌then◌, write};
+ghost use Rattle.rules.specs.Calls.{Outcome, row, ◌then◌, write};
 ghost use Rattle.rules.specs.Refusals.{told};
 ghost use Rattle.sessions.specs.Sound.{SoundSession};
 ghost use Rattle.writing.specs.Writable.{Writable, rows_behind};
@@ -26,16 +26,16 @@ fn write_too_far(at: u64, n: u64) -> bool
 
 // Rows 14 and 15, judged on the pages and entries that would result.
 fn room_rows(
-    st: State,
+    st: &State,
     history: &[u8],
     parent: Revision,
     at: usize,
     n: usize,
 ) -> Result<(), Refusal>
-    requires { (SoundSession history.now parent.setting st parent.record) × (at + n ≤ limit) }
-    ensures { let s = parent.setting in let would = touching (own_pages st) (pages_shared s.form.page at n) in
+    requires { (SoundSession history.now parent.setting st.now parent.record) × (at + n ≤ limit) }
+    ensures { let s = parent.setting in let would = touching (own_pages st.now) (pages_shared s.form.page at n) in
         told result ≡ row 14 (too_many (index_of history.now s.form parent.record) would)
-        then row 15 (no_room (length history.now) (own_address s st (length would))) }
+        then row 15 (no_room (length history.now) (own_address s st.now (length would))) }
 {
     let x = parent.index();
     let own = &st.pages[..st.n as usize];
@@ -54,10 +54,16 @@ fn room_rows(
 }
 
 // Rows 10, 19, 14, 15, 9, behind those of the session.
-fn write_rows(st: State, history: &[u8], parent: Revision, at: u64, n: usize) -> Result<(), Refusal>
-    requires { SoundSession history.now parent.setting st parent.record }
-    ensures number { told result ≡ rows_behind st history.now parent.setting parent.record at n }
-    ensures fits { OnOk result (Writable history.now parent.setting st parent.record at n) }
+fn write_rows(
+    st: &State,
+    history: &[u8],
+    parent: Revision,
+    at: u64,
+    n: usize,
+) -> Result<(), Refusal>
+    requires { SoundSession history.now parent.setting st.now parent.record }
+    ensures number { told result ≡ rows_behind st.now history.now parent.setting parent.record at n }
+    ensures fits { OnOk result (Writable history.now parent.setting st.now parent.record at n) }
 {
     if st.size < at {
         return Err(Refusal::Outside);
@@ -106,15 +112,17 @@ fn put_written(
 
 // Writes bytes into a session from an offset on. A refusal leaves history and session alone.
 pub fn write(
-    st: State,
+    st: &mut State,
     original: &[u8],
     history: &mut [u8],
     at: u64,
     bytes: &[u8],
-) -> Result<State, Refusal>
-    ensures { outcome st result history.new ≡ write st original.now history.old at bytes.now }
+) -> Result<(), Refusal>
+    ensures { ◌≡◌ {A = Outcome} (record { number = told result; session = st.new; bytes = history.new })
+        (write st.old original.now history.old at bytes.now) }
 {
-    let parent = sessions::judge(st, original, history)?;
-    write_rows(st, history, parent, at, bytes.len())?;
-    Ok(put_written(st, original, history, parent, at as usize, bytes))
+    let parent = sessions::judge(&*st, original, history)?;
+    write_rows(&*st, history, parent, at, bytes.len())?;
+    *st = put_written(*st, original, history, parent, at as usize, bytes);
+    Ok(())
 }

@@ -9,7 +9,7 @@ use Rattle.committing.proofs.commit.Goals as goal
 pub returns-in_err-p : goal.returns-in_err-p
 returns-in_err-p c =
     let a = c.args in
-    rw (handed_on _ _ c.from_residual.ensures.1) (commit_refused a.st _ _ _ _ a.user c.in_err-p.ensures.number (refused _))
+    rw (handed_on _ _ c.from_residual.ensures.1) (commit_refused _ _ _ _ _ a.user c.in_err-p.ensures.number (refused _))
 
 pub put_texts-requires : goal.put_texts-requires
 put_texts-requires c =
@@ -28,4 +28,4 @@ returns c =
     let w = judged.standing in
     let a = c.args in
     let recorded = record-laid w a.user _ _ c.put_indexed.ensures c.put_texts.ensures in
-    commit-accepted a.st _ _ _ _ a.user judged.number refl w.standing.session (commit_leaves w a.user _ recorded _ c.put_end.ensures) c.ended.ensures
+    commit-accepted _ _ _ _ _ a.user judged.number refl w.standing.session (commit_leaves w a.user _ recorded _ c.put_end.ensures) c.ended.ensures

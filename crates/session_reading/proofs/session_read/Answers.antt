@@ -11,7 +11,7 @@ use Rattle.session_reading.proofs.session_read.Goals as goal
 pub returns-in_err-parent : goal.returns-in_err-parent
 returns-in_err-parent c =
     let a = c.args in
-    rw (handed_on _ _ c.from_residual.ensures.1) (read_refused a.st _ _ a.at _ (begin_refused a.st _ _ a.at a.out.now c.in_err-parent.ensures.number (refused _)) (refused _))
+    rw (handed_on _ _ c.from_residual.ensures.1) (read_refused a.st.now _ _ a.at _ (begin_refused a.st.now _ _ a.at a.out.now c.in_err-parent.ensures.number (refused _)) (refused _))
 
 pub range_rows-requires : goal.range_rows-requires
 range_rows-requires c =
@@ -22,7 +22,7 @@ pub returns-in_err-range_rows : goal.returns-in_err-range_rows
 returns-in_err-range_rows c =
     let judged = c.in_ok-parent.ensures in
     let a = c.args in
-    rw (handed_on _ _ c.from_residual-in_err-range_rows.ensures.1) (read_refused a.st _ _ a.at _ (rows_behind_lem a.st _ _ a.at a.out.now judged.sound c.index.ensures judged.number refl c.in_err-range_rows.ensures.number) (refused _))
+    rw (handed_on _ _ c.from_residual-in_err-range_rows.ensures.1) (read_refused a.st.now _ _ a.at _ (rows_behind_lem a.st.now _ _ a.at a.out.now judged.sound c.index.ensures judged.number refl c.in_err-range_rows.ensures.number) (refused _))
 
 pub put_view-requires : goal.put_view-requires
 put_view-requires c =
@@ -33,4 +33,4 @@ pub returns : goal.returns
 returns c =
     let judged = c.in_ok-parent.ensures in
     let a = c.args in
-    read_done a.st _ _ a.at _ judged.sound c.index.ensures judged.number refl c.in_ok-range_rows.ensures.number refl c.put_view.ensures
+    read_done a.st.now _ _ a.at _ judged.sound c.index.ensures judged.number refl c.in_ok-range_rows.ensures.number refl c.put_view.ensures

@@ -16,4 +16,4 @@ returns c =
     let whole = c.in_ok-history in
     let ahead = whole.ensures in
     let judged = c.judge_session.ensures in
-    record { number = rows_past _ ahead.number refl (rw ahead.lent at (rows_of-history c.args.st whole.history.sound judged.number)); sound = rw ahead.lent at judged.sound }
+    record { number = rows_past _ ahead.number refl (rw ahead.lent at (rows_of-history c.args.st.now whole.history.sound judged.number)); sound = rw ahead.lent at judged.sound }

@@ -16,7 +16,7 @@ count_pages-would-requires c =
     let q = c.requires.0 in
     let x = c.index-x.ensures in
     let before = c.merged_count-before.ensures in
-    record { entries_in_bounds = (index-room q x, index_rises q x, omega (arith, own-length c.args.st (omega (arith, q.touched)), q.touched)); before_value = (before, before-most q x before, index-paged q x, c.requires.1) }
+    record { entries_in_bounds = (index-room q x, index_rises q x, omega (arith, own-length c.args.st.now (omega (arith, q.touched)), q.touched)); before_value = (before, before-most q x before, index-paged q x, c.requires.1) }
 
 pub returns-then-would-gt-TOUCHED : goal.returns-then-would-gt-TOUCHED
 returns-then-would-gt-TOUCHED c =

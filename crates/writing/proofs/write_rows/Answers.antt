@@ -11,12 +11,12 @@ use Rattle.writing.proofs.write_rows.Goals as goal
 pub returns-then-st-at-clause-number : goal.returns-then-st-at-clause-number
 returns-then-st-at-clause-number c =
     let a = c.args in
-    write_outside_lem a.st _ a.parent.setting a.parent.record a.at a.n c.if-st-at.true
+    write_outside_lem a.st.now _ a.parent.setting a.parent.record a.at a.n c.if-st-at.true
 
 pub returns-then-write_too_far-clause-number : goal.returns-then-write_too_far-clause-number
 returns-then-write_too_far-clause-number c =
     let a = c.args in
-    write_far a.st _ a.parent.setting a.parent.record a.at a.n c.if-st-at.false c.write_too_far.ensures c.if-write_too_far.true
+    write_far a.st.now _ a.parent.setting a.parent.record a.at a.n c.if-st-at.false c.write_too_far.ensures c.if-write_too_far.true
 
 pub room_rows-requires : goal.room_rows-requires
 room_rows-requires c =
@@ -25,7 +25,7 @@ room_rows-requires c =
 pub returns-in_err-room_rows-clause-number : goal.returns-in_err-room_rows-clause-number
 returns-in_err-room_rows-clause-number c =
     let a = c.args in
-    number-handed_on _ _ c.from_residual.ensures.1 ∙ write-room a.st _ a.parent.setting a.parent.record a.at a.n c.if-st-at.false c.write_too_far.ensures c.if-write_too_far.false c.in_err-room_rows.ensures (refused _)
+    number-handed_on _ _ c.from_residual.ensures.1 ∙ write-room a.st.now _ a.parent.setting a.parent.record a.at a.n c.if-st-at.false c.write_too_far.ensures c.if-write_too_far.false c.in_err-room_rows.ensures (refused _)
 
 pub range_wrong-requires : goal.range_wrong-requires
 range_wrong-requires c =
@@ -35,10 +35,10 @@ range_wrong-requires c =
 pub returns-then-range_wrong-clause-number : goal.returns-then-range_wrong-clause-number
 returns-then-range_wrong-clause-number c =
     let a = c.args in
-    write_damaged a.st _ a.parent.setting a.parent.record a.at a.n c.if-st-at.false c.write_too_far.ensures c.if-write_too_far.false c.in_ok-room_rows.ensures refl c.requires c.index.ensures c.range_wrong.ensures c.if-range_wrong.true
+    write_damaged a.st.now _ a.parent.setting a.parent.record a.at a.n c.if-st-at.false c.write_too_far.ensures c.if-write_too_far.false c.in_ok-room_rows.ensures refl c.requires c.index.ensures c.range_wrong.ensures c.if-range_wrong.true
 
 pub returns : goal.returns
 returns c =
     let a = c.args in
     let room = c.in_ok-room_rows.ensures in
-    record { number = write_fine a.st _ a.parent.setting a.parent.record a.at a.n c.if-st-at.false c.write_too_far.ensures c.if-write_too_far.false room refl c.requires c.index.ensures c.range_wrong.ensures c.if-range_wrong.false; fits = writable a.st _ a.parent.setting a.parent.record a.at a.n c.if-st-at.false c.write_too_far.ensures c.if-write_too_far.false room refl c.requires }
+    record { number = write_fine a.st.now _ a.parent.setting a.parent.record a.at a.n c.if-st-at.false c.write_too_far.ensures c.if-write_too_far.false room refl c.requires c.index.ensures c.range_wrong.ensures c.if-range_wrong.false; fits = writable a.st.now _ a.parent.setting a.parent.record a.at a.n c.if-st-at.false c.write_too_far.ensures c.if-write_too_far.false room refl c.requires }
