@@ -83,7 +83,7 @@ impl Totals {
 
     // With a few bytes more, word by word; an odd last byte is a low half.
     fn with_few(self, bytes: &[u8]) -> Totals
-        requires { (length bytes.now < 32) × (self.first < 2 ^ 40) × (self.second < 2 ^ 50) }
+        requires { (length bytes.now < 64) × (self.first < 2 ^ 40) × (self.second < 2 ^ 50) }
         ensures after { After bytes.now self.first self.second result.first result.second }
         ensures small { (result.first ≤ self.first + 2 ^ 21) × (result.second ≤ self.second + 2 ^ 46) }
     {
@@ -98,12 +98,13 @@ impl Totals {
         totals
     }
 
-    // With a part more. For a few bytes, as those of an entry, the lanes cost more than they spare.
+    // With a part more. For a few bytes, as those of an entry or of the header, the lanes cost more than they spare: they read a row at once,
+    // which has to wait where its bytes were just stored number by number.
     fn with_part(self, bytes: &[u8]) -> Totals
         requires { (length bytes.now ≤ PART) × (self.first < 65536) × (self.second < 65536) }
         ensures { After bytes.now self.first self.second result.first result.second }
     {
-        if bytes.len() < 32 {
+        if bytes.len() < 64 {
             return self.with_few(bytes);
         }
         let (whole, rest) = bytes.split_at(bytes.len() / 16 * 16);
