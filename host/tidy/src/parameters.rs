@@ -5,6 +5,9 @@ use crate::tokens::in_code_name;
 
 const MOST: usize = 7;
 
+/// A function that needs more has a comment directly above it that begins so, with the reason.
+const COMMENT: &str = "// More than seven parameters: ";
+
 pub fn check(source: &Source) -> Vec<Finding> {
     let text = |at: usize| source.code.get(at).map_or("", |token| token.text.as_str());
     // Behind the `fn` of a type stands a bracket.
@@ -12,12 +15,18 @@ pub fn check(source: &Source) -> Vec<Finding> {
         .filter(|&at| text(at) == "fn" && text(at + 1).starts_with(in_code_name));
     let counted = functions.map(|at| (at + 1, count((at + 2..source.code.len()).map(text))));
     counted
-        .filter(|&(_, count)| count > MOST)
+        .filter(|&(at, count)| count > MOST && !explained(source, source.code[at].line))
         .map(|(at, count)| {
             let what = format!("`{}` takes {count} parameters, more than {MOST}", text(at));
             source.finding(source.code[at].line, what)
         })
         .collect()
+}
+
+/// Whether the line above a function gives the reason for its parameters.
+fn explained(source: &Source, line: usize) -> bool {
+    let above = line.checked_sub(2).and_then(|at| source.lines.get(at));
+    above.map_or(false, |text| text.starts_with(COMMENT))
 }
 
 /// The parameters in the first brackets behind those of types, without `self`.
@@ -66,6 +75,14 @@ mod tests {
         let findings = check(&Source::new("crates/a/src/lib.rt", text));
         let one = |finding: Finding| (finding.line, finding.what);
         findings.into_iter().map(one).collect()
+    }
+
+    #[test]
+    fn eight_with_a_reason() {
+        let eight = "fn f(a: u8, b: u8, c: u8, d: u8, e: u8, f: u8, g: u8, h: u8) {}\n";
+        let reason = "// More than seven parameters: a test.\n";
+        assert_eq!(found(&format!("{reason}{eight}")), []);
+        assert_eq!(found(&format!("{reason}\n{eight}")).len(), 1);
     }
 
     #[test]
