@@ -1,5 +1,4 @@
-// A session as its user holds it: a value that each call takes and hands back. It has a kilobyte, so it goes by value here alone; what
-// stands below borrows it.
+// A session as its user holds it: a value that each call takes and hands back. It has a kilobyte, so the calls below borrow it.
 #![tactic(auto)]
 
 ghost use Rattle.std.specs.Prelude.{◌≡◌};
